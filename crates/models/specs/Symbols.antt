@@ -1,0 +1,103 @@
+-- The symbols of a content model and the expression that they are: the symbols are exactly one expression, and that one, exactly if
+-- they are its prefix form. Assumes nothing.
+use mathlib.Core.Path.{_≡_, refl, sym, ap, _∙_}
+use mathlib.Core.Logic.{_↔_}
+use mathlib.Core.Option.{Option, none, some}
+use mathlib.Core.List.{List, [], _∷_, _++_, append-assoc, append-nil}
+use Prim.Native.Nat.{ℕ, zero, suc, _+_, _-_}
+use native.Mathlib.Omega.{arith}
+use borrow.Author.Tests.{ne-eqb}
+use Rattle.paper.specs.Expressions.{Expr, name, seq, alt, opt, star, plus}
+use Rattle.paper.specs.Schema.{symbolsOf, symbol, fed, exprsOf, only, exprOf}
+
+abbrev pushed : Expr → Option (List Expr) → Option (List Expr)
+pushed e none = none
+pushed e (some es) = some (e ∷ es)
+
+symbol-name : (a : ℕ) (o : Option (List Expr)) → fed (5 + a) o ≡ pushed (name a) o
+unfolding symbol
+symbol-name a none = refl
+symbol-name a (some es) =
+    let d : 5 + a - 5 ≡ a = omega arith in
+    rw (
+      ne-eqb (5 + a) 0 (λ c. omega arith),
+      ne-eqb (5 + a) 1 (λ c. omega arith),
+      ne-eqb (5 + a) 2 (λ c. omega arith),
+      ne-eqb (5 + a) 3 (λ c. omega arith),
+      ne-eqb (5 + a) 4 (λ c. omega arith),
+      d,
+    )
+
+pushed-two : (e f : Expr) (o : Option (List Expr)) → (fed 0 (pushed e (pushed f o)) ≡ pushed (seq e f) o) × (fed 1 (pushed e (pushed f o)) ≡ pushed (alt e f) o)
+unfolding symbol
+pushed-two e f none = (refl, refl)
+pushed-two e f (some es) = (refl, refl)
+
+pushed-one : (e : Expr) (o : Option (List Expr))
+    → (fed 2 (pushed e o) ≡ pushed (opt e) o) × (fed 3 (pushed e o) ≡ pushed (star e) o) × (fed 4 (pushed e o) ≡ pushed (plus e) o)
+unfolding symbol
+pushed-one e none = (refl, refl, refl)
+pushed-one e (some es) = (refl, refl, refl)
+
+push-both : (e f : Expr) (r : List ℕ) → exprsOf (symbolsOf e ++ (symbolsOf f ++ r)) ≡ pushed e (exprsOf (symbolsOf f ++ r))
+    → exprsOf (symbolsOf f ++ r) ≡ pushed f (exprsOf r) → exprsOf ((symbolsOf e ++ symbolsOf f) ++ r) ≡ pushed e (pushed f (exprsOf r))
+push-both e f r p q = ap exprsOf (append-assoc (symbolsOf e) (symbolsOf f) r) ∙ p ∙ ap (pushed e) q
+
+-- the symbols of e, before others, give e, before theirs
+pub exprs-push : (e : Expr) (r : List ℕ) → exprsOf (symbolsOf e ++ r) ≡ pushed e (exprsOf r)
+exprs-push (name a) r = symbol-name a (exprsOf r)
+exprs-push (seq e f) r = ap (fed 0) (push-both e f r (exprs-push e (symbolsOf f ++ r)) (exprs-push f r)) ∙ pushed-two e f (exprsOf r) .0
+exprs-push (alt e f) r = ap (fed 1) (push-both e f r (exprs-push e (symbolsOf f ++ r)) (exprs-push f r)) ∙ pushed-two e f (exprsOf r) .1
+exprs-push (opt e) r = ap (fed 2) (exprs-push e r) ∙ pushed-one e (exprsOf r) .0
+exprs-push (star e) r = ap (fed 3) (exprs-push e r) ∙ pushed-one e (exprsOf r) .1
+exprs-push (plus e) r = ap (fed 4) (exprs-push e r) ∙ pushed-one e (exprsOf r) .2
+
+-- the symbols of several expressions
+abbrev pub symbolsOfAll : List Expr → List ℕ
+symbolsOfAll [] = []
+symbolsOfAll (e ∷ es) = symbolsOf e ++ symbolsOfAll es
+
+five : (a : ℕ) → 5 + a ≡ suc (suc (suc (suc (suc a))))
+five a = omega arith
+
+symbol-back : (s : ℕ) (es fs : List Expr) → symbol s es ≡ some fs → s ∷ symbolsOfAll es ≡ symbolsOfAll fs
+unfolding symbol
+symbol-back zero (e ∷ f ∷ es) fs c = let d : fs ≡ seq e f ∷ es = cc in rw (d, append-assoc)
+symbol-back zero [] fs c = let z : _≡_ {A = ℕ} 0 1 = cc in absurd (omega arith)
+symbol-back zero (e ∷ []) fs c = let z : _≡_ {A = ℕ} 0 1 = cc in absurd (omega arith)
+symbol-back (suc zero) (e ∷ f ∷ es) fs c = let d : fs ≡ alt e f ∷ es = cc in rw (d, append-assoc)
+symbol-back (suc zero) [] fs c = let z : _≡_ {A = ℕ} 0 1 = cc in absurd (omega arith)
+symbol-back (suc zero) (e ∷ []) fs c = let z : _≡_ {A = ℕ} 0 1 = cc in absurd (omega arith)
+symbol-back (suc (suc zero)) (e ∷ es) fs c = let d : fs ≡ opt e ∷ es = cc in rw d
+symbol-back (suc (suc zero)) [] fs c = let z : _≡_ {A = ℕ} 0 1 = cc in absurd (omega arith)
+symbol-back (suc (suc (suc zero))) (e ∷ es) fs c = let d : fs ≡ star e ∷ es = cc in rw d
+symbol-back (suc (suc (suc zero))) [] fs c = let z : _≡_ {A = ℕ} 0 1 = cc in absurd (omega arith)
+symbol-back (suc (suc (suc (suc zero)))) (e ∷ es) fs c = let d : fs ≡ plus e ∷ es = cc in rw d
+symbol-back (suc (suc (suc (suc zero)))) [] fs c = let z : _≡_ {A = ℕ} 0 1 = cc in absurd (omega arith)
+symbol-back (suc (suc (suc (suc (suc a))))) es fs c =
+    let k : some (name a ∷ es) ≡ some fs = sym (symbol-name a (some es)) ∙ ap (λ s. fed s (some es)) (five a) ∙ c in
+    let d : fs ≡ name a ∷ es = cc in
+    rw d (ap (λ s. s ∷ symbolsOfAll es) (sym (five a)))
+
+fed-back : (s : ℕ) (r : List ℕ) (o : Option (List Expr)) (fs : List Expr) → ((es : List Expr) → o ≡ some es → r ≡ symbolsOfAll es)
+    → fed s o ≡ some fs → s ∷ r ≡ symbolsOfAll fs
+fed-back s r none fs h c = let z : _≡_ {A = ℕ} 0 1 = cc in absurd (omega arith)
+fed-back s r (some es) fs h c = ap (λ l. s ∷ l) (h es refl) ∙ symbol-back s es fs c
+
+pub exprs-back : (w : List ℕ) (es : List Expr) → exprsOf w ≡ some es → w ≡ symbolsOfAll es
+exprs-back [] es c = let d : es ≡ [] = cc in rw d
+exprs-back (s ∷ r) fs c = fed-back s r (exprsOf r) fs (λ es d. exprs-back r es d) c
+
+only-back : (o : Option (List Expr)) (e : Expr) → only o ≡ some e → o ≡ some (e ∷ [])
+only-back none e c = let z : _≡_ {A = ℕ} 0 1 = cc in absurd (omega arith)
+only-back (some []) e c = let z : _≡_ {A = ℕ} 0 1 = cc in absurd (omega arith)
+only-back (some (f ∷ [])) e c = let d : f ≡ e = cc in rw d
+only-back (some (f ∷ g ∷ es)) e c = let z : _≡_ {A = ℕ} 0 1 = cc in absurd (omega arith)
+
+-- The symbols are the expression e exactly if they are e's in prefix form.
+pub exprOf-iff : (w : List ℕ) (e : Expr) → (exprOf w ≡ some e) ↔ (symbolsOf e ≡ w)
+unfolding exprOf
+exprOf-iff w e = (
+  λ c. sym (exprs-back w (e ∷ []) (only-back (exprsOf w) e c) ∙ append-nil (symbolsOf e)),
+  λ c. ap (λ s. only (exprsOf s)) (sym c ∙ sym (append-nil (symbolsOf e))) ∙ ap only (exprs-push e []),
+)

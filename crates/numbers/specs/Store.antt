@@ -1,0 +1,71 @@
+-- A number stored at a place of a list of bytes. Assumes nothing.
+use mathlib.Core.Path.{_≡_, refl}
+use mathlib.Core.Bool.{Bool, true, false}
+use mathlib.Core.List.{List, [], _∷_}
+use Prim.Native.Nat.{ℕ, _+_, _/_, _%_, _≤_, _<_}
+use native.Mathlib.Omega.{arith}
+use native.Mathlib.Numerals.{add-one, add-two}
+use borrow.Author.Tests.{ltb-true, ltb-false, lt-ltb, le-ltb}
+use lib.Dec.{ltb}
+use lib.ListN.{length, set}
+use lib.Seq.{sets}
+use Rattle.paper.specs.Files.{largest, bytesOf}
+
+-- n has bytes, and there is room for them in s from a place on
+pub record Storable (s : List ℕ) (at n : ℕ) : Type 0 where
+  pub small : n ≤ largest
+  pub room : at + length (bytesOf n) ≤ length s
+
+-- the bytes of n stand in s from a place on, and `next` is the place after them; every other byte is as before
+pub record Stored (s : List ℕ) (at n next : ℕ) (after : List ℕ) : Type 0 where
+  pub place : next ≡ at + length (bytesOf n)
+  pub bytes : after ≡ sets s at (bytesOf n)
+
+-- ---- one, two and three bytes
+
+module _ (n : ℕ) where
+  pub bytes-one : n < 128 → bytesOf n ≡ n ∷ []
+  unfolding bytesOf
+  bytes-one h = rw (lt-ltb n 128 h)
+
+  pub bytes-two : 128 ≤ n → n < 16384 → bytesOf n ≡ (128 + n % 128) ∷ (n / 128) ∷ []
+  unfolding bytesOf
+  bytes-two h l = rw (le-ltb n 128 h, lt-ltb n 16384 l)
+
+  pub bytes-three : 16384 ≤ n → bytesOf n ≡ (128 + n % 128) ∷ (128 + n / 128 % 128) ∷ (n / 16384) ∷ []
+  unfolding bytesOf
+  bytes-three h = rw (le-ltb n 128 (omega arith), le-ltb n 16384 h)
+
+  pub one-wide : n < 128 → 1 ≡ length (bytesOf n)
+  one-wide h = rw (bytes-one h)
+
+  pub two-wide : 128 ≤ n → n < 16384 → 2 ≡ length (bytesOf n)
+  two-wide h l = rw (bytes-two h l)
+
+  pub three-wide : 16384 ≤ n → 3 ≡ length (bytesOf n)
+  three-wide h = rw (bytes-three h)
+
+  wide : (1 ≤ length (bytesOf n)) × (length (bytesOf n) ≤ 3)
+  wide = go (ltb n 128) (ltb n 16384) refl refl
+    where
+      go : (a b : Bool) → ltb n 128 ≡ a → ltb n 16384 ≡ b → (1 ≤ length (bytesOf n)) × (length (bytesOf n) ≤ 3)
+      go true b p q = omega (arith, one-wide (ltb-true n 128 p))
+      go false true p q = omega (arith, two-wide (ltb-false n 128 p) (ltb-true n 16384 q))
+      go false false p q = omega (arith, three-wide (ltb-false n 16384 q))
+
+  pub least-wide : 1 ≤ length (bytesOf n)
+  least-wide = wide .0
+
+  pub most-wide : length (bytesOf n) ≤ 3
+  most-wide = wide .1
+
+  module _ (s : List ℕ) (at : ℕ) where
+    pub one-stored : n < 128 → Stored s at n (at + 1) (set s at n)
+    one-stored h = record { place = omega (arith, one-wide h); bytes = rw (bytes-one h) }
+
+    pub two-stored : 128 ≤ n → n < 16384 → Stored s at n (at + 2) (set (set s at (128 + n % 128)) (at + 1) (n / 128))
+    two-stored h l = record { place = omega (arith, two-wide h l); bytes = rw (bytes-two h l, add-one) }
+
+    pub three-stored : 16384 ≤ n
+        → Stored s at n (at + 3) (set (set (set s at (128 + n % 128)) (at + 1) (128 + n / 128 % 128)) (at + 2) (n / 16384))
+    three-stored h = record { place = omega (arith, three-wide h); bytes = rw (bytes-three h, add-one, add-two) }

@@ -1,0 +1,31 @@
+-- The paper ("What is to be built") as definitions that compute, in its order. Above each stands the paper's sentence. Nothing
+-- here is proved but examples: laws about these definitions stand in the crates above.
+-- Words for lists and numbers, and the paper's sizes
+pub mod Basics
+-- "Files of seven-bit groups"
+pub mod Files
+-- "Schema file": expressions and their meaning, ambiguity; what decides them; the file
+pub mod Expressions
+pub mod Sets
+pub mod Matching
+pub mod Schema
+pub mod SchemaWritten
+-- "Table"
+pub mod Table
+-- "Tokens and shape"
+pub mod Tokens
+pub mod Shape
+pub mod Trees
+-- "Judgement of a document": the two readings of a schema, and one judgement
+pub mod Rules
+pub mod Judgement
+pub mod Validity
+-- "The five edits"
+pub mod Edits
+pub mod TreeEdits
+-- "Answer numbers"
+pub mod Answers
+-- "The small shade": the edit program, and the cases
+pub mod Program
+pub mod Open
+pub mod SmallShade

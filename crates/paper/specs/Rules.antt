@@ -1,0 +1,103 @@
+-- What a judgement asks of a schema, as tests, and the two readings: from a schema's own expressions, with no table anywhere in
+-- it, and from a table.
+-- Assumes nothing.
+use mathlib.Core.Bool.{Bool, true, false, _&&_}
+use mathlib.Core.Option.{Option, none, some}
+use mathlib.Core.List.{List, [], _∷_}
+use Prim.Native.Nat.{ℕ, _+_}
+use lib.Dec.{eqb}
+use lib.ListN.{length, getD}
+use Rattle.paper.specs.Basics.{find, some-of}
+use Rattle.paper.specs.Sets.{bit}
+use Rattle.paper.specs.Schema.{Attribute, Content, empty, text, model, Element, Schema}
+use Rattle.paper.specs.Matching.{matches}
+use Rattle.paper.specs.Table.{block, cell, kindAt, allowedAt, requiredAt, idAt, idrefAt, idrefsAt, countAt, noChildAt, firstAt, lastAt, namesAt, followAt, kindNumber, ofKind, isRequired}
+
+pub record Rules : Type 0 where
+  -- E, and the root's name
+  pub elements : ℕ
+  pub root : ℕ
+  -- of an element: its kind; and whether a list of children, by their names, is one that its model describes
+  pub kind : ℕ → ℕ
+  pub describes : ℕ → List ℕ → Bool
+  -- of an element and an attribute
+  pub allowed : ℕ → ℕ → Bool
+  pub required : ℕ → ℕ → Bool
+  pub id : ℕ → ℕ → Bool
+  pub idref : ℕ → ℕ → Bool
+  pub idrefs : ℕ → ℕ → Bool
+
+-- ---- from a schema
+
+abbrev pub undeclared : Element
+undeclared = record { content = empty; attributes = [] }
+
+abbrev pub elementAt : Schema → ℕ → Element
+elementAt s e = getD (s .elements) e undeclared
+
+-- the element has an attribute of that number, with P
+abbrev pub has : (Attribute → Bool) → Element → ℕ → Bool
+has P x a = some-of (λ y. P y && eqb a (y .number)) (x .attributes)
+
+abbrev pub describedBy : Content → List ℕ → Bool
+describedBy empty w = false
+describedBy text w = false
+describedBy (model e) w = matches e w
+
+abbrev pub ofSchema : Schema → Rules
+ofSchema s = record {
+  elements = length (s .elements);
+  root = s .root;
+  kind = λ e. kindNumber (elementAt s e .content);
+  describes = λ e w. describedBy (elementAt s e .content) w;
+  allowed = λ e a. has (λ y. true) (elementAt s e) a;
+  required = λ e a. has isRequired (elementAt s e) a;
+  id = λ e a. has (ofKind 1) (elementAt s e) a;
+  idref = λ e a. has (ofKind 2) (elementAt s e) a;
+  idrefs = λ e a. has (ofKind 3) (elementAt s e) a;
+}
+
+-- ---- from a table
+
+-- where a run stands: nothing was read yet, or occurrence k was read last
+pub data State : Type 0 where
+  start : State
+  at : ℕ → State
+
+-- "judged by running it: begin in first, move by follow, end in last, or by the no-child flag"
+abbrev pub setAt : List ℕ → State → ℕ
+setAt b start = cell b firstAt
+setAt b (at k) = cell b (followAt + k)
+
+abbrev pub mayEnd : List ℕ → State → Bool
+mayEnd b start = eqb (cell b noChildAt) 1
+mayEnd b (at k) = bit (cell b lastAt) k
+
+-- the occurrence of the name a that comes next; in a proper table there is one at most
+abbrev pub move : List ℕ → State → ℕ → Option ℕ
+move b s a = find (λ k. bit (setAt b s) k && eqb (cell b (namesAt + k)) a) (cell b countAt)
+
+-- the state after the names; none: no next occurrence
+abbrev pub runFrom : List ℕ → State → List ℕ → Option State
+runFrom b s [] = some s
+runFrom b s (a ∷ w) = elim (move b s a) [ none ↦ none | some k ↦ runFrom b (at k) w ]
+
+abbrev pub ended : List ℕ → Option State → Bool
+ended b none = false
+ended b (some s) = mayEnd b s
+
+abbrev pub runs : List ℕ → List ℕ → Bool
+runs b w = ended b (runFrom b start w)
+
+abbrev pub ofTable : List ℕ → Rules
+ofTable t = record {
+  elements = getD t 0 0;
+  root = getD t 1 0;
+  kind = λ e. cell (block t e) kindAt;
+  describes = λ e w. runs (block t e) w;
+  allowed = λ e a. bit (cell (block t e) allowedAt) a;
+  required = λ e a. bit (cell (block t e) requiredAt) a;
+  id = λ e a. bit (cell (block t e) idAt) a;
+  idref = λ e a. bit (cell (block t e) idrefAt) a;
+  idrefs = λ e a. bit (cell (block t e) idrefsAt) a;
+}

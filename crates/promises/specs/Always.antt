@@ -1,0 +1,112 @@
+-- What holds of every outcome that a contract allows, whatever the input: two are equal; a refusal leaves everything lent as it
+-- was; a done edit leaves the edited document. Assumes nothing.
+use mathlib.Core.Path.{_≡_, refl, sym, _∙_}
+use mathlib.Core.Logic.{_≢_}
+use mathlib.Core.Bool.{Bool, true, false, cond}
+use mathlib.Core.List.{List}
+use Prim.Native.Nat.{ℕ, zero, suc}
+use native.Mathlib.Omega.{arith}
+use borrow.Author.Tests.{eqb-false}
+use lib.Dec.{eqb}
+use lib.IntN.{pos, _-ℤ_}
+use lib.ListN.{length, take}
+use Rattle.paper.specs.Files.{Result, refused, made, Counted, counted, reading, writing, read, write}
+use Rattle.paper.specs.Schema.{Schema, Parsed, stop, ok, schemaOf}
+use Rattle.paper.specs.Table.{tableLength, translated, translate, proper}
+use Rattle.paper.specs.Shape.{shapeOf}
+use Rattle.paper.specs.Rules.{Rules, ofTable}
+use Rattle.paper.specs.Judgement.{Answer, judge}
+use Rattle.paper.specs.Edits.{Request, Outcome, Edited, refused as rejected, done, outcome, edited, touchedBy, formFault, answered, editing, editBy, written, edit}
+use Rattle.paper.specs.Tokens.{toks}
+use Rattle.promises.specs.Statements.{ReadDeterminate, WriteDeterminate, TranslateDeterminate, CheckDeterminate, EditDeterminate, ReadKeeps, WriteKeeps, TranslateKeeps, Kept, EditKeeps, Left, EditLeaves}
+
+-- ---- one outcome for one input
+
+pub read-determinate : ReadDeterminate
+read-determinate i o p a b = a ∙ sym b
+
+pub write-determinate : WriteDeterminate
+write-determinate i o p a b = a ∙ sym b
+
+pub translate-determinate : TranslateDeterminate
+translate-determinate i o p a b = a ∙ sym b
+
+pub check-determinate : CheckDeterminate
+check-determinate i o p a b = a ∙ sym b
+
+pub edit-determinate : EditDeterminate
+edit-determinate i o p a b = a ∙ sym b
+
+-- ---- refusals
+
+counted-keeps : (r : Result) (buffer : List ℕ) (o : Counted) → o ≡ counted r buffer → o .number ≢ 0 → (o .count ≡ 0) × (o .buffer ≡ buffer)
+counted-keeps (refused k) buffer o e n = (cc, cc)
+counted-keeps (made l) buffer o e n = absurd (n (cc))
+
+pub read-keeps : ReadKeeps
+unfolding read
+read-keeps file buffer o e n = counted-keeps (reading file buffer) buffer o e n
+
+pub write-keeps : WriteKeeps
+unfolding write
+write-keeps tokens buffer o e n = counted-keeps (writing tokens buffer) buffer o e n
+
+pub translate-keeps : TranslateKeeps
+unfolding translate
+translate-keeps file table o e n = by-length (eqb (length table) tableLength) e
+  where
+    by-file : (p : Parsed Schema) → o ≡ translated p table → o .1 ≡ table
+    by-file (stop k) e = cc
+    by-file (ok s r) e = absurd (n (cc))
+
+    by-length : (b : Bool) → o ≡ cond b (translated (schemaOf file) table) (13, table) → o .1 ≡ table
+    by-length true e = by-file (schemaOf file) e
+    by-length false e = cc
+
+-- ---- an edit: a refusal has a number that is not 0, and what is done is the edited document
+
+abbrev Settled : (new : List ℕ) → Edited → Type 0
+Settled new (rejected n p) = n ≢ 0
+Settled new (done l) = l ≡ new
+
+answered-settled : (n : ℕ) (a : Answer) (new : List ℕ) → Settled new (answered n a new)
+answered-settled zero a new = go (eqb (a .0) 0) refl
+  where
+    go : (b : Bool) → eqb (a .0) 0 ≡ b → Settled new (cond b (done new) (rejected (a .0) (a .1)))
+    go true e = refl
+    go false e = eqb-false (a .0) 0 e
+answered-settled (suc n) a new = λ z. absurd (omega arith)
+
+module _ (table buffer : List ℕ) (used : ℕ) (q : Request) where
+  abbrev new : List ℕ
+  new = edited q (take used buffer)
+
+  by-shape : (R : Rules) (b : Bool) → Settled new (cond b (editing R (length buffer) q (take used buffer)) (rejected 4 0))
+  unfolding editing
+  by-shape R true = answered-settled (formFault (length buffer) q (take used buffer)) (judge R (touchedBy q (take used buffer)) (toks new)) new
+  by-shape R false = λ z. absurd (omega arith)
+
+  by-table : (b : Bool) → Settled new (cond b (editBy (ofTable table) buffer used q) (rejected 13 0))
+  unfolding editBy
+  by-table true = by-shape (ofTable table) (shapeOf buffer used)
+  by-table false = λ z. absurd (omega arith)
+
+  outcome-keeps : (x : Edited) → Settled new x → (o : Outcome) → o ≡ outcome buffer used x → o .number ≢ 0 → Kept buffer used o
+  outcome-keeps (rejected n p) s o e d = (cc, cc, cc)
+  outcome-keeps (done l) s o e d = absurd (d (cc))
+
+  outcome-leaves : (x : Edited) → Settled new x → (o : Outcome) → o ≡ outcome buffer used x → o .number ≡ 0 → Left buffer used q o
+  outcome-leaves (rejected n p) s o e z = absurd (s (cc))
+  outcome-leaves (done l) s o e z =
+      let at-l : (o .place ≡ 0) × (o .used ≡ length l) × (o .change ≡ pos (length l) -ℤ pos used) × (o .buffer ≡ written buffer used l) = (cc, cc, cc, cc) in
+      rw s at at-l
+
+pub edit-keeps : EditKeeps
+unfolding edit
+edit-keeps table buffer used q o e d =
+    outcome-keeps table buffer used q (cond (proper table) (editBy (ofTable table) buffer used q) (rejected 13 0)) (by-table table buffer used q (proper table)) o e d
+
+pub edit-leaves : EditLeaves
+unfolding edit
+edit-leaves table buffer used q o e z =
+    outcome-leaves table buffer used q (cond (proper table) (editBy (ofTable table) buffer used q) (rejected 13 0)) (by-table table buffer used q (proper table)) o e z

@@ -1,0 +1,180 @@
+-- Demand 3, edit by edit over a run: from a document that is valid by the expressions each edit through the table is made
+-- rightly, and the document is valid again. Assumes nothing.
+use mathlib.Core.Path.{_≡_, refl, sym, _∙_}
+use mathlib.Core.Logic.{_↔_, _≢_}
+use mathlib.Core.Bool.{Bool, true, false, cond, _&&_}
+use mathlib.Core.List.{List, [], _∷_, _++_, map}
+use Prim.Native.Nat.{ℕ, zero, suc, _-_, _≤_, max}
+use native.Mathlib.Omega.{arith}
+use native.Mathlib.Decide.{ℕ-discrete}
+use borrow.Author.Tests.{leb-true, eqb-true, eqb-false, le-leb}
+use lib.Dec.{leb, eqb}
+use lib.ListN.{length, take, drop, replicate, length-append}
+use lib.Seq.{take-length, take-at}
+use Rattle.paper.specs.declared.Tok.{Tok}
+use Rattle.paper.specs.Basics.{mostTokens, elem}
+use Rattle.paper.specs.Schema.{Schema}
+use Rattle.paper.specs.Tokens.{toks}
+use Rattle.paper.specs.Shape.{shallow, shapeOf}
+use Rattle.paper.specs.Rules.{Rules, ofSchema}
+use Rattle.paper.specs.Judgement.{Answer, none-found, orElse, before, rootFault, elementFault, first, startPlace, repeated, dangling, idsOf, refsOf, valueIn, keyFault, judge, whole, checking}
+use Rattle.paper.specs.Validity.{ValidDocument}
+use Rattle.paper.specs.Edits.{Request, Outcome, refused, done, outcome, edited, touchedBy, formFault, answered, editing, editBy, written}
+use Rattle.trees.specs.EditJudged.{Asked, form-iff, judged-whole, asked-shape}
+use Rattle.promises.specs.Statements.{Translated, Kept, Left, InForm, Right, EachRight, Runs}
+use Rattle.promises.specs.ShapeParts.{and-right, shape-long, shape-element}
+use Rattle.promises.specs.Always.{edit-keeps, edit-leaves}
+use Rattle.promises.specs.ByTable.{edit-judged}
+
+-- ---- an answer with number 0 has place 0
+
+abbrev Neat : Answer → Type 0
+Neat a = a .0 ≡ 0 → a ≡ none-found
+
+before-neat : (a r : Answer) → Neat r → Neat (before a r)
+before-neat a r n = go (a .0)
+  where
+    go : (f : ℕ) → orElse f (a .1) r .0 ≡ 0 → orElse f (a .1) r ≡ none-found
+    go zero e = n e
+    go (suc f) e = absurd (omega arith)
+
+dangling-neat : (ids : List ℕ) (l : List (ℕ × ℕ)) → Neat (dangling ids l)
+dangling-neat ids [] = λ e. refl
+dangling-neat ids (p ∷ l) = go (elem (p .1) ids) (dangling-neat ids l)
+  where
+    go : (b : Bool) → Neat (dangling ids l) → cond b (dangling ids l) (12, p .0) .0 ≡ 0 → cond b (dangling ids l) (12, p .0) ≡ none-found
+    go true n e = n e
+    go false n e = absurd (omega arith)
+
+judge-neat : (R : Rules) (J : ℕ → Bool) (d : List Tok) → Neat (judge R J d)
+unfolding judge
+judge-neat R J d =
+    before-neat (rootFault R d) (before (first (elementFault R) startPlace J 0 d) (keyFault R d))
+    (before-neat (first (elementFault R) startPlace J 0 d) (keyFault R d)
+    (before-neat (repeated [] (idsOf R d)) (dangling (map valueIn (idsOf R d)) (refsOf R d)) (dangling-neat (map valueIn (idsOf R d)) (refsOf R d))))
+
+-- ---- the answer to an edit in form
+
+-- what becomes of an edit in form, where a is the judgement of the edited document
+module _ (buffer : List ℕ) (used : ℕ) (a : Answer) (new : List ℕ) (o : Outcome) (e : o ≡ outcome buffer used (answered 0 a new)) where
+  answer-done : (o .number ≡ 0) ↔ (a .0 ≡ 0)
+  answer-done = go (eqb (a .0) 0) refl e
+    where
+      go : (b : Bool) → eqb (a .0) 0 ≡ b → o ≡ outcome buffer used (cond b (done new) (refused (a .0) (a .1))) → (o .number ≡ 0) ↔ (a .0 ≡ 0)
+      go true f e = (λ z. eqb-true (a .0) 0 f, λ z. cc)
+      go false f e = (λ z. cc, λ z. absurd (eqb-false (a .0) 0 f z))
+
+  answer-place : o .number ≢ 0 → (o .number, o .place) ≡ a
+  answer-place n = go (eqb (a .0) 0) e
+    where
+      go : (b : Bool) → o ≡ outcome buffer used (cond b (done new) (refused (a .0) (a .1))) → (o .number, o .place) ≡ a
+      go true e = absurd (n (cc))
+      go false e = rw e refl
+
+-- ---- a document in its buffer
+
+-- the new document, written to the buffer
+module _ (buffer : List ℕ) (used : ℕ) (new : List ℕ) (h : used ≤ length buffer) (k : length new ≤ length buffer) where
+  written-long : length new ≤ length (written buffer used new)
+  written-long = simp length-append (omega arith)
+
+  written-take : take (length new) (written buffer used new) ≡ new
+  written-take = take-at new (replicate (used - length new) 0 ++ drop (max used (length new)) buffer) (length new) refl
+
+  written-shape : shapeOf new (length new) ≡ true → shapeOf (written buffer used new) (length new) ≡ true
+  unfolding shapeOf
+  written-shape e =
+      rw (written-take, le-leb (length new) (length (written buffer used new)) written-long)
+      (rw (take-length new, le-leb (length new) (length new) (omega arith)) at e)
+
+  written-valid : (s : Schema) → ValidDocument s new (length new) → ValidDocument s (written buffer used new) (length new)
+  written-valid s v = record { shape = written-shape (v .shape); valid = rw written-take (rw (take-length new) at (v .valid)) }
+
+-- ---- one edit
+
+-- Judging from the expressions finds the valid documents.
+module _ (s : Schema) (valid-iff : (buffer : List ℕ) (used : ℕ) → (checking (ofSchema s) buffer used .0 ≡ 0) ↔ ValidDocument s buffer used) where
+  module _ (buffer : List ℕ) (used : ℕ) (v : ValidDocument s buffer used) (q : Request) (o : Outcome) (e : o ≡ outcome buffer used (editBy (ofSchema s) buffer used q)) where
+    abbrev doc : List ℕ
+    doc = take used buffer
+
+    abbrev new : List ℕ
+    new = edited q doc
+
+    by-form : o ≡ outcome buffer used (editing (ofSchema s) (length buffer) q doc)
+    unfolding editBy
+    by-form = rw (v .shape) at e
+
+    no-fault : judge (ofSchema s) whole (toks doc) ≡ none-found
+    unfolding checking
+    no-fault = judge-neat (ofSchema s) whole (toks doc) (rw (v .shape) at (valid-iff buffer used .1 v))
+
+    module _ (f : InForm buffer used q) where
+      asked : Asked (length buffer) q doc
+      asked = form-iff (length buffer) q doc .0 f
+
+      new-shape : shapeOf new (length new) ≡ true
+      new-shape = asked-shape (ofSchema s) (length buffer) q doc (shape-element buffer used (v .shape)) asked
+
+      new-checked : checking (ofSchema s) new (length new) ≡ judge (ofSchema s) whole (toks new)
+      unfolding checking
+      new-checked = rw (new-shape, take-length new)
+
+      made : o ≡ outcome buffer used (answered 0 (checking (ofSchema s) new (length new)) new)
+      unfolding editing
+      made =
+          by-form
+          ∙ rw (f, new-checked, judged-whole (ofSchema s) (length buffer) q doc (shape-element buffer used (v .shape)) asked no-fault)
+
+      new-fits : length new ≤ length buffer
+      new-fits = leb-true (length new) (length buffer) (and-right (leb (length new) mostTokens && shallow (toks new)) (leb (length new) (length buffer)) (asked .size))
+
+      exactly : (o .number ≡ 0) ↔ ValidDocument s new (length new)
+      exactly =
+          let d = answer-done buffer used (checking (ofSchema s) new (length new)) new o made in
+          let c = valid-iff new (length new) in
+          (λ z. c .0 (d .0 z), λ w. d .1 (c .1 w))
+
+    form-refused : ¬ InForm buffer used q → (o .number ≡ formFault (length buffer) q doc) × (o .place ≡ 0)
+    unfolding editing
+    form-refused n = go (formFault (length buffer) q doc) refl by-form
+      where
+        go : (k : ℕ) → formFault (length buffer) q doc ≡ k
+            → o ≡ outcome buffer used (answered k (judge (ofSchema s) (touchedBy q doc) (toks new)) new)
+            → (o .number ≡ k) × (o .place ≡ 0)
+        go zero f e = absurd (n f)
+        go (suc k) f e = (cc, cc)
+
+    -- the document after the edit, where the edit is done as Left says, or kept
+    still-valid : (o .number ≢ 0 → Kept buffer used o) → (o .number ≡ 0 → Left buffer used q o) → ValidDocument s (o .buffer) (o .used)
+    still-valid keeps leaves = elim (ℕ-discrete (o .number) 0) [
+      | no n ↦ let (u, c, b) = keeps n in rw (u, b) v
+      | yes z ↦ elim (ℕ-discrete (formFault (length buffer) q doc) 0) [
+          | yes f ↦
+              let (p, u, c, b) = leaves z in
+              rw (u, b) (written-valid buffer used new (shape-long buffer used (v .shape)) (new-fits f) s (exactly f .0 z))
+          | no n ↦ absurd (n (sym (form-refused n .0) ∙ z))
+        ]
+    ]
+
+    right : (o .number ≢ 0 → Kept buffer used o) → (o .number ≡ 0 → Left buffer used q o) → Right s buffer used q o
+    right keeps leaves = record {
+      done-exactly = exactly;
+      number-place = λ f. answer-place buffer used (checking (ofSchema s) new (length new)) new o (made f);
+      not-in-form = form-refused;
+      kept = keeps;
+      left = leaves;
+      valid-after = still-valid keeps leaves;
+    }
+
+  -- ---- the run
+
+  pub run-right : (table : List ℕ) → Translated s table → (buffer : List ℕ) (used : ℕ) → ValidDocument s buffer used
+      → (l : List (Request × Outcome)) → Runs table buffer used l → EachRight s buffer used l
+  run-right table t buffer used v [] r = tt
+  run-right table t buffer used v (x ∷ l) (p, r) =
+      let q : Request = x .0 in
+      let o : Outcome = x .1 in
+      let here : Right s buffer used q o =
+      right buffer used v q o (p ∙ edit-judged s table t buffer used q) (edit-keeps table buffer used q o p) (edit-leaves table buffer used q o p) in
+      (here, run-right table t (o .buffer) (o .used) (here .valid-after) l r)

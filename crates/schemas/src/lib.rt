@@ -1,0 +1,1 @@
+// Which files are schemas: laws, in specs/. There is no code here.

@@ -1,0 +1,7 @@
+-- Laws of schemas and tables. What is proved stands in `Translated`.
+pub mod Readers
+pub mod Parts
+pub mod SameRules
+pub mod Accepted
+pub mod ProperTable
+pub mod Translated

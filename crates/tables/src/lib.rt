@@ -1,0 +1,1 @@
+// Laws of schemas and their tables, in specs/: see specs/Translated.antt. There is no code here.

@@ -1,0 +1,9 @@
+-- The five edits on the tree.
+-- The tokens around a place in a tree
+pub mod Places
+-- A splice at a place in a tree
+pub mod Splices
+-- The piece of an edit, as a part of a tree
+pub mod Pieces
+-- An edit makes the tokens of the tree that the edit rules make
+pub mod Edited

@@ -1,0 +1,1 @@
+// Validity and the judgement: laws, in specs/. There is no code here.

@@ -1,0 +1,1402 @@
+#!/usr/bin/env python3
+"""Compares the definitions of the crate `paper` with reference.py.
+
+    python3 compare.py [SEED [COUNT]] [--keep] [--paper FOLDER]
+
+Makes COUNT random cases (default: seed 1, 600 cases) beside some fixed ones
+at the limits, has reference.py give the answers, writes them as equations
+over the definitions, and has `rt check` compute these. Exit status: 0 all
+equal; 1 some differ, or an answer that can occur did not; 2 the equations
+could not be checked. --keep keeps the scratch repository; --paper takes the
+definitions from another folder than crates/paper.
+"""
+
+import copy
+import os
+import random
+import re
+import shutil
+import subprocess
+import sys
+import tempfile
+import time
+
+import reference as ref
+from reference import (ID, IDREF, IDREFS, CDATA, START, END, TEXT, ATTRIBUTE, VALUE,
+                       TABLE, BLOCK, TOKENS, LARGEST, Element, Text)
+
+HERE = os.path.dirname(os.path.abspath(__file__))
+PAPER = os.path.join(os.path.dirname(os.path.dirname(HERE)), 'crates', 'paper')
+GROUP = 20               # most terms in one equation
+WEIGHT = 6000            # most tokens and bytes in one equation of several terms
+
+OPERATIONS = {1: 'insert', 2: 'remove', 3: 'replace', 4: 'set', 5: 'drop'}
+
+# ------------------------------------------------- what must have occurred
+
+ALL = {0, 4, 5, 6, 7, 8, 9, 10, 11, 12, 13}
+REQUIRED = {
+    'read': {0, 1, 5},
+    'write': {0, 4, 5},
+    'translate': {0, 1, 2, 3, 13},
+    'schemaOf': {0, 1, 2, 3},
+    'proper': {0, 1},
+    'check': {0, 4, 8, 9, 10, 11, 12, 13},
+    'checking': {0, 4, 8, 9, 10, 11, 12},
+    'edit insert': ALL,
+    'edit remove': ALL - {5},
+    'edit replace': ALL,
+    'edit set': ALL,
+    'edit drop': ALL - {5},
+    'edit other': {4, 6, 13},
+    'editBy insert': ALL - {13},
+    'editBy remove': ALL - {5, 13},
+    'editBy replace': ALL - {13},
+    'editBy set': ALL - {13},
+    'editBy drop': ALL - {5, 13},
+    'editBy other': {4, 6},
+    'check, own table': {0, 4, 8, 9, 10, 11, 12},
+    'edit, own table': ALL - {13},
+    '(of a valid doc)': ALL - {7, 13},
+    '(of an invalid)': ALL - {13},
+    'printed': {'lines', 'check not 0', 'stop 1', 'stop 2', 'stop 3', 'stop 5'},
+}
+
+
+# ------------------------------------------------------------ antt's terms
+
+def term(numbers):
+    """A list of numbers as a term; what repeats is written once."""
+    numbers = list(numbers)
+    parts, plain, at = [], [], 0
+    while at < len(numbers):
+        best = None
+        for period in range(1, 5):
+            end = at + period
+            while end < len(numbers) and numbers[end] == numbers[end - period]:
+                end += 1
+            times = (end - at) // period
+            if times >= 4 and times * period >= 10 and (best is None or times * period > best[0] * best[1]):
+                best = (times, period)
+            if period == 1 and best:
+                break
+        if best is None:
+            plain.append(numbers[at])
+            at += 1
+            continue
+        if plain:
+            parts.append(spelled(plain))
+            plain = []
+        times, period = best
+        if period == 1:
+            parts.append('replicate %d %d' % (times, numbers[at]))
+        else:
+            parts.append('repeat %d %s' % (times, spelled(numbers[at:at + period])))
+        at += times * period
+    if plain or not parts:
+        parts.append(spelled(plain))
+    text = parts[-1]
+    for part in reversed(parts[:-1]):
+        text = '%s ++ (%s)' % (part, text)
+    return text if text == '[]' else '(%s)' % text
+
+
+def spelled(numbers):
+    if not numbers:
+        return '[]'
+    return '(%s ∷ [])' % ' ∷ '.join(map(str, numbers))
+
+
+def signed(number):
+    return '(pos %d)' % number if number >= 0 else '(negsuc %d)' % (-number - 1)
+
+
+def request(operation, place, piece):
+    return '(asked %d %d %s)' % (operation, place, term(piece))
+
+
+SAME = '''-- How an answer of the definitions is compared with the expected one.
+use mathlib.Core.Bool.{Bool, true, false, not, _&&_}
+use mathlib.Core.List.{List, [], _∷_, _++_}
+use Prim.Native.Nat.{ℕ, zero, suc}
+use lib.Dec.{eqb}
+use lib.IntN.{ℤ, pos, negsuc}
+use lib.ListN.{replicate}
+use Rattle.paper.specs.Basics.{all, concat}
+use Rattle.paper.specs.Files.{Counted}
+use Rattle.paper.specs.Schema.{Schema, Parsed, stop, ok}
+use Rattle.paper.specs.Edits.{Request, Outcome}
+
+abbrev pub same : List ℕ → List ℕ → Bool
+same [] [] = true
+same [] (b ∷ m) = false
+same (a ∷ l) [] = false
+same (a ∷ l) (b ∷ m) = eqb a b && same l m
+
+abbrev pub sameChange : ℤ → ℤ → Bool
+sameChange (pos m) (pos n) = eqb m n
+sameChange (pos m) (negsuc n) = false
+sameChange (negsuc m) (pos n) = false
+sameChange (negsuc m) (negsuc n) = eqb m n
+
+abbrev pub repeat : ℕ → List ℕ → List ℕ
+repeat n l = concat (replicate n l)
+
+abbrev pub asked : ℕ → ℕ → List ℕ → Request
+asked op at p = record { operation = op; place = at; piece = p }
+
+abbrev pub counts : Counted → ℕ → ℕ → List ℕ → Bool
+counts c n k b = eqb (c .number) n && eqb (c .count) k && same (c .buffer) b
+
+abbrev pub answers : ℕ × ℕ → ℕ → ℕ → Bool
+answers a n p = eqb (a .0) n && eqb (a .1) p
+
+abbrev pub tables : ℕ × List ℕ → ℕ → List ℕ → Bool
+tables a n t = eqb (a .0) n && same (a .1) t
+
+abbrev pub results : Outcome → ℕ → ℕ → ℕ → ℤ → List ℕ → Bool
+results o n p u c b = eqb (o .number) n && eqb (o .place) p && eqb (o .used) u && sameChange (o .change) c && same (o .buffer) b
+
+abbrev pub each : List Bool → Bool
+each l = all (λ b. b) l
+
+abbrev pub with-schema : Parsed Schema → (Schema → List Bool) → Bool
+with-schema (stop n) f = false
+with-schema (ok s r) f = each (f s)
+'''
+
+HEAD = '''-- Computed equations, written by compare.py.
+use mathlib.Core.Path.{_≡_, refl}
+use mathlib.Core.Bool.{Bool, true, false, not, _&&_}
+use mathlib.Core.Option.{none, some}
+use mathlib.Core.List.{List, [], _∷_, _++_}
+use Prim.Native.Nat.{ℕ, zero, suc}
+use lib.Dec.{eqb}
+use lib.IntN.{ℤ, pos, negsuc}
+use lib.ListN.{replicate}
+use Rattle.cases.specs.Same.{same, sameChange, repeat, asked, counts, answers, tables, results, each, with-schema}
+use Rattle.paper.specs.Files.{Counted, read, write}
+use Rattle.paper.specs.Schema.{Schema, Parsed, stop, ok, schemaOf, refusalOf}
+use Rattle.paper.specs.Table.{tableOf, translate, proper}
+use Rattle.paper.specs.Rules.{ofSchema}
+use Rattle.paper.specs.Judgement.{checking, check}
+use Rattle.paper.specs.Edits.{Request, Outcome, outcome, editBy, edit}
+use Rattle.paper.specs.Program.{printed}
+use Rattle.paper.specs.Open.{all-open}
+'''
+
+
+class Term:
+    """One computed comparison: the call, the expected number, the Boolean
+    term, the length of its lists, and terms that find out what the
+    definitions answer if it fails."""
+
+    def __init__(self, call, number, holds, weight, probes=()):
+        self.call = call
+        self.number = number
+        self.holds = holds
+        self.weight = weight
+        self.probes = probes         # (label, number term, candidates) or (label, Boolean term, None)
+
+
+class Case:
+    """One input, its terms, what to tell of it, and further rows of the
+    printed table in which it counts."""
+
+    def __init__(self, terms, told, rows=()):
+        self.terms = terms
+        self.told = told
+        self.rows = [(part.call, part.number) for part in terms] + list(rows)
+
+
+class Context:
+    """A table that several cases share, and its schema file, if it has one.
+    `file` is None for a table that no schema file gives."""
+
+    def __init__(self, file, table):
+        self.file = file
+        self.table = table
+        self.schema = ref.schema_of(file) if file is not None else None
+        self.good = ref.proper(table)
+        self.rules = self.schema or (ref.rules_of(table) if self.good else None)
+        self.cases = []
+        if self.schema:
+            self.depth = depths(self.schema)
+
+
+def depths(schema):
+    """How deep the least valid element of each name is; 99 if there is none."""
+    least = [99] * len(schema.elements)
+
+    def cost(tree):
+        if isinstance(tree, ref.Name):
+            return least[tree.name]
+        if isinstance(tree, ref.Sequence):
+            return max(cost(tree.left), cost(tree.right))
+        if isinstance(tree, ref.Choice):
+            return min(cost(tree.left), cost(tree.right))
+        if isinstance(tree, ref.Plus):
+            return cost(tree.part)
+        return 0
+
+    for _ in range(len(least) + 1):
+        for e, declared in enumerate(schema.elements):
+            inner = cost(declared.model.tree) if declared.kind == 2 else 0
+            least[e] = min(99, 1 + inner)
+    schema.cost = cost
+    return least
+
+
+# --------------------------------------------------------- random schemas
+
+class Maker:
+    """Everything random."""
+
+    def __init__(self, seed):
+        self.r = random.Random(seed)
+
+    def chance(self, p):
+        return self.r.random() < p
+
+    # -- schemas
+
+    def symbols(self, names, count):
+        """A random expression with `names` occurrences of elements below
+        `count`, operators first."""
+        r = self.r
+        pool = list(range(count))
+        r.shuffle(pool)
+        repeats = r.choice([0.05, 0.2, 0.6])
+
+        def name():
+            if pool and not self.chance(repeats):
+                return [5 + pool.pop()]
+            return [5 + r.randrange(count)]
+
+        def part(n):
+            if n == 1:
+                out = name()
+            else:
+                left = r.randrange(1, n)
+                out = [r.choice([0, 0, 1])] + part(left) + part(n - left)
+            while self.chance(0.3):
+                out = [r.choice([2, 3, 3, 4])] + out
+            return out
+
+        return part(names)
+
+    def attributes(self):
+        r = self.r
+        if self.chance(0.35):
+            return []
+        numbers = sorted(set(r.choice([0, 1, 2, 3, 5, 31, 32, 62, 63, r.randrange(64)])
+                             for _ in range(r.choice([1, 1, 2, 2, 3, 4]))))
+        out, has = [], False
+        for number in numbers:
+            kind = r.choice([CDATA, ID, ID, IDREF, IDREF, IDREFS])
+            if kind == ID and has:
+                kind = r.choice([CDATA, IDREF, IDREFS])
+            has = has or kind == ID
+            out.append((number, kind, r.choice([0, 1])))
+        return out
+
+    def schema_numbers(self, count=None, names=8, ambiguous=False):
+        """The numbers of a schema file, as a list of lists: [E, root], then
+        for each element kind, symbols and attributes. Mostly unambiguous."""
+        r = self.r
+        if count is None:
+            count = r.choice([1, 2, 3, 3, 4, 4, 5, 6, 8])
+        out = [count, r.randrange(count)]
+        for e in range(count):
+            kind = 2 if e == out[1] and self.chance(0.9) else r.choice([0, 0, 1, 2, 2])
+            out.append(kind)
+            if kind == 2:
+                least, most = (names // 2, names) if e == out[1] else (1, min(names, 8))
+                for _ in range(200):
+                    symbols = self.symbols(r.randrange(max(least, 1), most + 1), count)
+                    if len(symbols) <= 255 and \
+                            ref.Model(*ref.expression(symbols)).ambiguous() == ambiguous:
+                        break
+                out += [len(symbols)] + symbols
+            attributes = self.attributes()
+            out.append(len(attributes))
+            for attribute in attributes:
+                out += attribute
+        return out
+
+    def context(self, **how):
+        """The numbers of a schema that the translator takes and that has valid
+        documents."""
+        while True:
+            numbers = self.schema_numbers(**how)
+            number, table = ref.translate(ref.file_of(numbers), [0] * TABLE)
+            if number == 0:
+                context = Context(ref.file_of(numbers), table)
+                if context.depth[context.schema.root] <= 6:
+                    return numbers
+
+    def schema_file(self, wanted):
+        """A schema file with the answer wanted, by a small change of a good
+        one."""
+        r = self.r
+        for _ in range(5000):
+            numbers = self.schema_numbers(ambiguous=wanted == 3 and self.chance(0.8))
+            file = ref.file_of(numbers)
+            if wanted == 2:
+                numbers = list(numbers)
+                at = r.randrange(len(numbers) + 1)
+                way = r.randrange(6)
+                if way == 0:
+                    numbers.insert(at, r.choice([0, 1, 2, 3, 4, 5, 48, 49, 64, 65, 255, 256]))
+                elif way == 1 and at < len(numbers):
+                    del numbers[at]
+                elif way == 2:
+                    numbers.append(r.choice([0, 1, 300]))
+                elif at < len(numbers):
+                    numbers[at] = r.choice([0, 1, 2, 3, 4, 5 + numbers[0], 4 + numbers[0], 48, 49, 63, 64,
+                                            65, 255, 256, LARGEST, numbers[at] + 1])
+                file = ref.file_of(numbers)
+            elif wanted == 1:
+                at = r.randrange(len(file) + 1)
+                way = r.randrange(4)
+                if way == 0:
+                    file = file[:at]
+                elif way == 1:
+                    file = file[:at] + r.choice([[128, 0], [255, 128, 0], [128, 128, 128], [200, 200, 200, 1],
+                                                 [128]]) + file[at:]
+                elif way == 2 and at < len(file):
+                    file[at] += 128 if file[at] < 128 else 0
+                elif at < len(file):
+                    file[at] = r.randrange(256)
+            elif wanted == 3 and self.chance(0.3):
+                at = r.randrange(len(numbers))
+                numbers[at] = r.choice([0, 1, 5, 6, numbers[at] + 1])
+                file = ref.file_of(numbers)
+            if ref.translate(file, [0] * TABLE)[0] == wanted:
+                return file
+        raise SystemExit('no schema file with answer %d' % wanted)
+
+    # -- documents
+
+    def word(self, declared, schema, budget, fuel):
+        """A random child sequence, as a rule one that the model describes."""
+        r = self.r
+        if isinstance(declared.model, ref.Run):
+            block = declared.model.block
+            if block.none and self.chance(0.3) or not block.first:
+                return []
+            out, choices = [], block.first
+            while choices and len(out) < 12:
+                k = r.choice(sorted(choices))
+                out.append(block.names[k])
+                if k in block.last and self.chance(0.4):
+                    break
+                choices = block.follow[k]
+            return out
+        cost = schema.cost
+
+        def part(tree):
+            if isinstance(tree, ref.Name):
+                fuel[0] -= 1
+                return [tree.name]
+            if isinstance(tree, ref.Sequence):
+                return part(tree.left) + part(tree.right)
+            if isinstance(tree, ref.Choice):
+                ways = [t for t in (tree.left, tree.right) if cost(t) <= budget]
+                if not ways or fuel[0] <= 0:
+                    ways = [min((tree.left, tree.right), key=cost)]
+                return part(r.choice(ways))
+            times = {ref.Optional: r.choice([0, 1]), ref.Star: r.choice([0, 0, 1, 1, 2, 3]),
+                     ref.Plus: r.choice([1, 1, 2, 3])}[type(tree)]
+            if cost(tree.part) > budget or fuel[0] <= 0:
+                times = 1 if isinstance(tree, ref.Plus) else 0
+            return [name for _ in range(times) for name in part(tree.part)]
+
+        return part(declared.model.tree)
+
+    def element(self, context, name, budget=6, fuel=None):
+        """A random element, attribute values None until `fill`."""
+        r = self.r
+        fuel = fuel or [r.choice([3, 6, 10, 20])]
+        rules = context.rules
+        out = Element(name)
+        if name >= len(rules.elements):
+            return out
+        declared = rules.elements[name]
+        for number, (kind, required) in sorted(declared.attributes.items()):
+            if required or self.chance(0.5):
+                out.attributes[number] = [None] * (r.choice([1, 1, 2, 3]) if kind == IDREFS else 1)
+        if declared.kind == 1:
+            ref.adopt(out, 0, Text(r.choice([0, 1, 30, 65535])))
+        elif declared.kind == 2 and budget > 0:
+            for child in self.word(declared, rules, budget - 1, fuel):
+                ref.adopt(out, len(out.children), self.element(context, child, budget - 1, fuel))
+        return out
+
+    def fill(self, context, part, ids, careful=True):
+        """Gives the values that are None: new IDs, references to IDs."""
+        r = self.r
+        empty = []
+        for element in part.elements():
+            kinds = context.rules.elements[element.name].attributes \
+                if element.name < len(context.rules.elements) else {}
+            for number, values in sorted(element.attributes.items()):
+                for k, value in enumerate(values):
+                    if value is None:
+                        empty.append((kinds.get(number, (CDATA, False))[0], values, k))
+        for kind, values, k in empty:
+            if kind == ID:
+                value = r.choice([r.randrange(30), r.randrange(65536)])
+                while value in ids and careful:
+                    value = r.randrange(65536)
+                values[k] = value
+                ids.append(value)
+        for kind, values, k in empty:
+            if kind in (IDREF, IDREFS) and ids and self.chance(0.97):
+                values[k] = r.choice(ids)
+            elif kind != ID:
+                values[k] = r.choice([0, 7, 30, 65535])
+        return part
+
+    def ids(self, context, root):
+        out = []
+        for element in root.elements():
+            if element.name < len(context.rules.elements):
+                kinds = context.rules.elements[element.name].attributes
+                for number, values in element.attributes.items():
+                    if kinds.get(number, (CDATA,))[0] == ID:
+                        out += values
+        return out
+
+    def document(self, context):
+        root = self.element(context, context.rules.root)
+        return self.fill(context, root, [])
+
+    def change_tree(self, context, root, way=None):
+        """One small fault, as a rule."""
+        r = self.r
+        count = len(context.rules.elements)
+        way = way or r.choice(TREE_WAYS)
+        elements = list(root.elements())
+        some = r.choice(elements)
+        if way == 'root':
+            root.name = r.choice([e for e in list(range(count + 2)) + [65535] if e != context.rules.root])
+        elif way == 'undeclared':
+            (r.choice(elements[1:]) if elements[1:] else some).name = r.choice([count, count + 1, 48, 64, 65535])
+        elif way == 'rename':
+            some.name = r.randrange(count)
+        elif way == 'attribute more':
+            some.attributes[r.choice([0, 1, 2, 63, 64, 65, 127, 128, 65535, r.randrange(64)])] = [r.choice([3, 30])]
+        elif way == 'attribute less':
+            having = [e for e in elements if e.attributes]
+            if having:
+                some = r.choice(having)
+                del some.attributes[r.choice(sorted(some.attributes))]
+        elif way == 'value more':
+            having = [e for e in elements if e.attributes]
+            if having:
+                some = r.choice(having)
+                values = some.attributes[r.choice(sorted(some.attributes))]
+                values.append(r.choice(values + [5]))
+        elif way == 'child less':
+            having = [e for e in elements if e.children]
+            if having:
+                some = r.choice(having)
+                some.children.remove(r.choice(some.children))
+        elif way == 'child more':
+            name = r.choice([r.choice(elements).name, r.randrange(count)])
+            if name < count:
+                new = self.fill(context, self.element(context, name, 2), self.ids(context, root))
+                ref.adopt(some, r.randrange(len(some.children) + 1), new)
+        elif way == 'text':
+            ref.adopt(some, r.randrange(len(some.children) + 1), Text(r.randrange(100)))
+        elif way in ('same id', 'loose'):
+            places = []
+            for element in elements:
+                if element.name < count:
+                    kinds = context.rules.elements[element.name].attributes
+                    for number, values in element.attributes.items():
+                        kind = kinds.get(number, (CDATA,))[0]
+                        if (kind == ID) == (way == 'same id') and kind != CDATA:
+                            places += [(values, k) for k in range(len(values))]
+            if places:
+                values, k = r.choice(places)
+                values[k] = r.choice(self.ids(context, root)) if way == 'same id' else r.choice([40000, 1])
+        return root
+
+    def change_tokens(self, tokens):
+        """One small fault of shape, as a rule."""
+        r = self.r
+        tokens = list(tokens)
+        at = r.randrange(len(tokens) + 1)
+        here = at % len(tokens)
+        way = r.randrange(8)
+        if way == 0:
+            tokens.insert(at, r.choice([1, 2, 3, 4, 5, 9, 12, 13, 165]))
+        elif way == 1:
+            del tokens[here]
+        elif way == 2:
+            tokens[here] = r.choice([0, 6, 7, 10, 16, 18, 8 * 65536 + 1, 8 * 65536 + 3, 8 * 65536 + 4,
+                                     8 * 65536 + 5, 8 * 65535 + 3, 2 ** 31, 2 ** 32 + 1, 2 ** 32 - 1])
+        elif way == 3:
+            tokens[here] = tokens[here] // 8 * 8 + r.randrange(8)
+        elif way == 4:
+            other = r.randrange(len(tokens))
+            tokens[here], tokens[other] = tokens[other], tokens[here]
+        elif way == 5:
+            tokens = tokens + r.choice([[2], [1, 2], [3], tokens])
+        elif way == 6:
+            tokens = tokens[:here]
+        else:
+            tokens[here:here] = tokens[here:here + r.randrange(1, 4)]
+        return tokens
+
+    def buffer(self, tokens):
+        """The tokens in a buffer, and the used length."""
+        r = self.r
+        room = [r.choice([0, 1, 2, 7, 9, 2 ** 32 - 1]) for _ in range(r.choice([0, 0, 1, 3, 6, 12]))]
+        used = len(tokens)
+        if self.chance(0.03):
+            used = r.choice([0, 1, 2, used + 1, used - 1, len(tokens + room), len(tokens + room) + 1, 8193, 10 ** 6])
+        return tokens + room, max(used, 0)
+
+    # -- edits
+
+    def attribute_piece(self, context, root, element):
+        r = self.r
+        declared = context.rules.elements[element.name].attributes \
+            if element.name < len(context.rules.elements) else {}
+        choices = [r.choice([0, 1, 63, 64, 65535])]
+        if declared:
+            choices += [r.choice(sorted(declared))] * 4
+        if element.attributes:
+            choices += [r.choice(sorted(element.attributes))] * 3
+        number = r.choice(choices)
+        kind = declared.get(number, (CDATA,))[0]
+        ids = self.ids(context, root)
+        count = r.choice([1, 2, 3]) if kind == IDREFS or self.chance(0.06) else 1
+        values = []
+        for _ in range(count):
+            if kind == CDATA or not ids or self.chance(0.3):
+                values.append(r.choice([0, 5, 77, 40000, 65535]))
+            else:
+                values.append(r.choice(ids))
+        return [8 * number + ATTRIBUTE] + [8 * v + VALUE for v in values]
+
+    def item_piece(self, context, root, parent, there):
+        r = self.r
+        rules = context.rules
+        count = len(rules.elements)
+        if parent is not None and parent.name < count and rules.elements[parent.name].kind == 1:
+            text = 0.6
+        else:
+            text = 0.1
+        if self.chance(text):
+            return [8 * r.choice([0, 4, 65535]) + TEXT]
+        names = [r.randrange(count)]
+        if isinstance(there, Element):
+            names += [there.name] * 3
+        if parent is not None:
+            names += [c.name for c in parent.children if isinstance(c, Element)]
+        name = r.choice(names)
+        if self.chance(0.08):
+            name = r.choice([count, count + 1, 65535])
+        if self.chance(0.1):
+            part = copy.deepcopy(r.choice(list(root.elements())))
+        else:
+            ids = self.ids(context, root)
+            part = self.fill(context, self.element(context, name, 4), ids, self.chance(0.8))
+        if self.chance(0.15):
+            part = self.change_tree(context, part)
+        return ref.lay(part)
+
+    def bad_piece(self, piece):
+        r = self.r
+        return r.choice([[], [2], [1], [4], [5], [3, 3], [1, 2, 3], [3, 1, 2], [1, 2, 1, 2], [4, 5], [4, 4], [4, 5, 3],
+                         [5, 5], [8 * 65536 + 3], [8 * 65536 + 4], [8 * 65536 + 4, 5], [4, 8 * 65536 + 5], [0], [6], [7],
+                         [1, 5, 2], [1, 4, 2], [1, 4, 5, 4, 5, 2], [10], [1] * 65 + [2] * 65, piece + [3], piece + piece,
+                         piece[:-1]])
+
+    def edit(self, context, root, operation):
+        """Operation, place and piece, mostly sensible. `root` has been laid."""
+        r = self.r
+        tokens = ref.lay(root)
+        sorts = {1: (START, TEXT, END), 2: (START, TEXT), 3: (START, TEXT), 4: (START,), 5: (START,)}
+        wanted = sorts.get(operation, (START,))
+        places = [k for k, token in enumerate(tokens) if token % 8 in wanted and (k or operation >= 3)]
+        if not places or self.chance(0.06):
+            place = r.choice([0, 1, 2, len(tokens) - 1, len(tokens), len(tokens) + 1, r.randrange(len(tokens)), 10 ** 7])
+        else:
+            place = r.choice(places)
+        spot = ref.find(root, place)
+        there = spot[1] if spot else root
+        parent = there if spot and spot[0] == END else there.parent
+        if operation in (4, 5):
+            element = there if isinstance(there, Element) else root
+            piece = self.attribute_piece(context, root, element)
+            if operation == 5:
+                if element.attributes and self.chance(0.8):
+                    piece = [8 * r.choice(sorted(element.attributes)) + ATTRIBUTE]
+                piece = piece[:1]
+        elif operation == 2:
+            piece = []
+        else:
+            piece = self.item_piece(context, root, parent, there)
+        if self.chance(0.04):
+            piece = self.bad_piece(piece)
+        return operation, place, piece
+
+    # -- tables
+
+    def own_table(self, context, wish=True):
+        """A change of a translated table that is proper (wish) or is not."""
+        r = self.r
+        for _ in range(3000):
+            table = list(context.table)
+            for _ in range(r.choice([1, 1, 2, 3, 5])):
+                self.change_table(table)
+            if ref.proper(table) == wish and table != context.table:
+                return table
+        return None
+
+    def change_table(self, table):
+        r = self.r
+        way = r.randrange(14)
+        count = min(max(table[0], 1), 48) if len(table) > 1 else 1
+        if way == 0 and self.chance(0.3):
+            table[:] = r.choice([table[:-1], table + [0], [], table[:r.randrange(len(table) + 1)]])
+            return
+        if len(table) != TABLE:
+            return
+        if way == 1:
+            table[0] = r.choice([0, 1, 47, 48, 49, table[0] + 1, max(table[0] - 1, 0)])
+            return
+        if way == 2:
+            table[1] = r.choice([0, max(table[0] - 1, 0), table[0], r.randrange(48)])
+            return
+        e = r.randrange(count)
+        if self.chance(0.03):
+            e = r.randrange(48)
+        base = 2 + e * BLOCK
+        n = min(table[base + 6], 64)
+
+        def bit(limit):
+            return 1 << r.choice([r.randrange(max(limit, 1)), 0, 63, limit % 64])
+
+        if way == 3:
+            table[base] = r.choice([0, 1, 2, 3])
+        elif way in (4, 5):
+            table[base + r.choice([1, 2, 3, 4, 5])] ^= bit(8)
+        elif way == 6:
+            at = r.choice([2, 3, 4, 5])
+            table[base + at] |= bit(4)
+            table[base + 1] |= table[base + at]
+        elif way == 7:
+            table[base + 6] = r.choice([0, 1, n + 1, max(n - 1, 0), 64, 65])
+        elif way == 8:
+            table[base + 7] = r.choice([0, 1, 1 - min(table[base + 7], 1), 2])
+        elif way in (9, 10, 11) and n:
+            at = r.choice([8, 9, 9] + [74 + r.randrange(n) for _ in range(3)])
+            table[base + at] ^= 1 << r.choice([r.randrange(n)] * 8 + [n % 64, 63])
+        elif way == 12 and n:
+            table[base + 10 + r.choice([r.randrange(n)] * 8 + [n % 64, 63])] = \
+                r.choice([r.randrange(count)] * 4 + [count, 48])
+        elif way == 13 and self.chance(0.2):
+            table[r.randrange(TABLE)] = r.choice([0, 1, 2, 2 ** 63, 2 ** 64 - 1])
+
+
+TREE_WAYS = ['root', 'undeclared', 'rename', 'attribute more', 'attribute less', 'value more', 'child less',
+             'child more', 'text', 'same id', 'loose']
+FOR_NUMBER = {7: ['undeclared'], 8: ['attribute more', 'attribute less', 'value more'],
+              9: ['child less', 'child more', 'text', 'rename'], 10: ['root'], 11: ['same id', 'child more', 'value more'],
+              12: ['loose', 'attribute less', 'child less']}
+
+
+# ------------------------------------------------------------------ cases
+
+def told(**parts):
+    return '\n'.join('    %s: %s' % (key.replace('_', ' '), value) for key, value in parts.items())
+
+
+def read_case(file, buffer):
+    number, count, after = ref.read(file, buffer)
+    call = 'read %s %s' % (term(file), term(buffer))
+    holds = 'counts (%s) %d %d %s' % (call, number, count, term(after))
+    probes = [('number', '(%s) .number' % call, range(14)), ('count', '(%s) .count' % call, range(min(300, len(buffer) + 2))),
+              ('buffer as expected', 'same ((%s) .buffer) %s' % (call, term(after)), None)]
+    return Case([Term('read', number, holds, len(file) + len(buffer), probes)],
+                told(call='read', file=file, buffer=buffer, expected=(number, count, after)))
+
+
+def write_case(tokens, buffer):
+    number, count, after = ref.write(tokens, buffer)
+    call = 'write %s %s' % (term(tokens), term(buffer))
+    holds = 'counts (%s) %d %d %s' % (call, number, count, term(after))
+    probes = [('number', '(%s) .number' % call, range(14)), ('count', '(%s) .count' % call, range(min(300, len(buffer) + 2))),
+              ('buffer as expected', 'same ((%s) .buffer) %s' % (call, term(after)), None)]
+    return Case([Term('write', number, holds, len(tokens) + len(buffer), probes)],
+                told(call='write', tokens=tokens, buffer=buffer, expected=(number, count, after)))
+
+
+def translate_case(file, table):
+    number, after = ref.translate(file, table)
+    call = 'translate %s %s' % (term(file), term(table))
+    holds = 'tables (%s) %d %s' % (call, number, term(after))
+    probes = [('number', '(%s) .0' % call, range(14)),
+              ('table as expected', 'same ((%s) .1) %s' % (call, term(after)), None)]
+    weight = 8 * len(file) if number in (0, 3) else len(file)
+    terms = [Term('translate', number, holds, weight, probes)]
+    if len(table) == TABLE:
+        call = 'refusalOf (schemaOf %s)' % term(file)
+        terms.append(Term('schemaOf', number, 'eqb (%s) %d' % (call, number), weight, [('number', call, range(14))]))
+    return Case(terms, told(call='translate', file=file, table_length=len(table), expected=number))
+
+
+def proper_case(table):
+    good = ref.proper(table)
+    holds = 'proper %s' % term(table)
+    return Case([Term('proper', int(good), holds if good else 'not (%s)' % holds, 100)],
+                told(call='proper', table=term(table), expected=good))
+
+
+def check_case(context, buffer, used):
+    """Of the context's table, and of its schema if it has one."""
+    number, place = ref.check(context.table, buffer, used)
+    own = context.file is None
+    terms = []
+
+    def add(name, call):
+        terms.append(Term(name, number, 'answers (%s) %d %d' % (call, number, place), len(buffer),
+                          [('number', '(%s) .0' % call, range(14)),
+                           ('place', '(%s) .1' % call, range(min(300, len(buffer) + 1)))]))
+
+    add('check, own table' if own and context.good else 'check', 'check table %s %d' % (term(buffer), used))
+    if not own:
+        agree('check', (number, place), ref.check_by_schema(context.schema, buffer, used))
+        add('checking', 'checking (ofSchema s) %s %d' % (term(buffer), used))
+    return Case(terms, told(call='check', buffer=buffer, used=used, expected=(number, place)))
+
+
+def edit_case(context, buffer, used, operation, place, piece):
+    answer = ref.edit(context.table, buffer, used, operation, place, piece)
+    number, where, length, change, after = answer
+    own = context.file is None
+    name = OPERATIONS.get(operation, 'other')
+    terms = []
+    wanted = '%d %d %d %s %s' % (number, where, length, signed(change), term(after))
+
+    def add(name, call):
+        probes = [('number', '(%s) .number' % call, range(14)),
+                  ('place', '(%s) .place' % call, range(min(300, len(buffer) + len(piece) + 1))),
+                  ('used', '(%s) .used' % call, range(min(300, len(buffer) + len(piece) + 1))),
+                  ('change as expected', 'sameChange ((%s) .change) %s' % (call, signed(change)), None),
+                  ('buffer as expected', 'same ((%s) .buffer) %s' % (call, term(after)), None)]
+        terms.append(Term(name, number, 'results (%s) %s' % (call, wanted), len(buffer) + len(piece), probes))
+
+    parts = '%s %d %s' % (term(buffer), used, request(operation, place, piece))
+    add('edit, own table' if own and context.good else 'edit ' + name, 'edit table ' + parts)
+    if not own:
+        agree('edit', answer, ref.edit_by_schema(context.schema, buffer, used, operation, place, piece))
+        add('editBy ' + name, 'outcome %s %d (editBy (ofSchema s) %s)' % (term(buffer), used, parts))
+    rows = []
+    if context.good:
+        before = ref.check_by_schema(context.rules, buffer, used)[0]
+        if before != 4:
+            rows.append(('(of an invalid)' if before else '(of a valid doc)', number))
+    return Case(terms, told(call='edit', buffer=buffer, used=used, operation=operation, place=place, piece=piece,
+                            expected=answer), rows)
+
+
+def agree(call, by_table, by_schema):
+    if by_table != by_schema:
+        raise SystemExit('reference.py differs with itself in %s: %r by the table, %r by the schema'
+                         % (call, by_table, by_schema))
+
+
+def printed_case(schema, doc, edits):
+    out = ref.program(schema, doc, edits)
+    lines = out.decode().splitlines()
+    if lines[-1].startswith('stop'):
+        kind = lines[-1]
+    elif lines[0].split()[1] != '0':
+        kind = 'check not 0'
+    else:
+        kind = 'lines'
+
+    def file(f):
+        return 'none' if f is None else '(some %s)' % term(f)
+
+    call = 'printed %s %s %s' % (file(schema), file(doc), file(edits))
+    weight = sum(len(f or []) for f in (schema, doc, edits)) + 500 * len(lines)
+    return Case([Term('printed', kind, 'same (%s) %s' % (call, term(out)), weight)],
+                told(call='printed', schema=schema, doc=doc, edits=edits, expected=lines))
+
+
+def improved(shade, last):
+    """Tables for each clause of what is proper, from that of the small shade
+    and from one with sixty-four occurrences; some are proper, some are not."""
+
+    def place(element, at):
+        return 2 + element * BLOCK + at
+
+    def put(base, *changes):
+        table = list(base)
+        for at, value in changes:
+            table[at] = value
+        return table
+
+    top = 1 << 63
+    out = [shade[:-1], shade + [0], [], [1], shade, last]
+    for e in (0, 3, 5, 48, 49, 2 ** 64 - 1):
+        out.append(put(shade, (0, e)))
+    for root in (3, 4, 47, 48):
+        out.append(put(shade, (1, root)))
+    for element in (0, 2, 3):
+        for kind in (0, 1, 2, 3):
+            out.append(put(shade, (place(element, 0), kind)))
+    for at in (6, 7, 8, 9, 10, 73, 74, 137):
+        out.append(put(shade, (place(2, at), 1)))           # text only
+        out.append(put(shade, (place(3, at), 1)))           # EMPTY
+        out.append(put(shade, (place(4, at), 1)))           # past the elements
+    for at in range(6):
+        out.append(put(shade, (place(47, at), 1)))
+    out.append(put(shade, (TABLE - 1, 1)))
+    for at in (2, 3, 4, 5):
+        out.append(put(shade, (place(1, at), 4)))           # outside allowed
+        out.append(put(shade, (place(1, at), top), (place(1, 1), top + 2)))
+    sets = (place(1, 1), 7 + top)
+    for one in (3, 4, 5):
+        for two in (3, 4, 5):
+            out.append(put(shade, sets, (place(1, one), 2), (place(1, two), top)))
+            out.append(put(shade, sets, (place(1, one), 6), (place(1, two), 4)))
+    for ids in (0, 1, 3, top, top + 1, 7):
+        out.append(put(shade, sets, (place(1, 3), ids)))
+    for n in (0, 1, 2, 3, 63, 64, 65):
+        out.append(put(shade, (place(0, 6), n)))
+        out.append(put(last, (place(0, 6), n)))
+    for flag in (0, 1, 2):
+        out.append(put(shade, (place(0, 7), flag)))
+    for at in (8, 9, 74, 75, 76, 137):
+        for bits in (0, 1, 2, 3, 4, 7, top):
+            out.append(put(shade, (place(0, at), bits)))
+    for at in (8, 9, 74, 136, 137):
+        for bits in (0, 3, 5, top, top + 1, top + 2, 2 ** 64 - 1):
+            out.append(put(last, (place(0, at), bits)))
+    for at in (10, 11, 12, 73):
+        for name in (1, 3, 4, 48):
+            out.append(put(shade, (place(0, at), name)))
+            out.append(put(last, (place(0, at), name)))
+    return out
+
+
+# ------------------------------------------------------------ the whole set
+
+class Cases:
+    def __init__(self, seed):
+        self.make = Maker(seed)
+        self.r = self.make.r
+        self.contexts = []           # with table, and with schema or not
+        self.alone = []              # cases with no context
+        self.counts = {}
+        self.total = 0
+        self.fixed = 0
+
+    def add(self, case, context=None):
+        (context.cases if context else self.alone).append(case)
+        self.total += 1
+        for call, number in case.rows:
+            row = self.counts.setdefault(call, {})
+            row[number] = row.get(number, 0) + 1
+
+    def missing(self):
+        return [(call, number) for call, numbers in REQUIRED.items() for number in sorted(numbers, key=str)
+                if number not in self.counts.get(call, {})]
+
+    # -- calls without a document
+
+    def read(self, wanted=None):
+        r = self.r
+        while True:
+            numbers = [r.choice([0, 1, 127, 128, 16383, 16384, LARGEST, r.randrange(128), r.randrange(LARGEST + 1)])
+                       for _ in range(r.choice([0, 1, 2, 3, 5, 8]))]
+            file = ref.file_of(numbers)
+            if self.make.chance(0.3):
+                at = r.randrange(len(file) + 1)
+                file[at:at] = r.choice([[128, 0], [128, 128, 0], [255, 255, 255], [129], [255, 255, 127], [128, 128, 1]])
+            if self.make.chance(0.2):
+                file = file[:r.randrange(len(file) + 1)]
+            if self.make.chance(0.1):
+                file = [r.choice([0, 1, 127, 128, 129, 255, r.randrange(256)]) for _ in range(r.randrange(8))]
+            buffer = [r.randrange(1000) for _ in range(max(0, len(numbers) + r.choice([-2, -1, 0, 0, 1, 4])))]
+            if wanted in (None, ref.read(file, buffer)[0]):
+                return self.add(read_case(file, buffer))
+
+    def write(self, wanted=None):
+        r = self.r
+        while True:
+            tokens = [r.choice([0, 1, 127, 128, 16383, 16384, LARGEST, r.randrange(128), r.randrange(LARGEST + 1)])
+                      for _ in range(r.choice([0, 1, 2, 3, 5, 8]))]
+            if tokens and self.make.chance(0.3):
+                tokens[r.randrange(len(tokens))] = r.choice([LARGEST + 1, 2 ** 32 - 1, 2 ** 40])
+            size = len(ref.file_of(tokens))
+            buffer = [r.randrange(256) for _ in range(max(0, size + r.choice([-2, -1, 0, 0, 1, 5])))]
+            if wanted in (None, ref.write(tokens, buffer)[0]):
+                return self.add(write_case(tokens, buffer))
+
+    def translate(self, wanted=None):
+        r = self.r
+        if wanted is None:
+            wanted = r.choice([0, 0, 1, 1, 2, 2, 2, 3, 3, 13])
+        before = r.choice([[0] * TABLE, [7] * TABLE, list(range(10)) + [2 ** 64 - 1] * (TABLE - 10)])
+        if wanted == 13:
+            length = r.choice([0, 1, 10, TABLE - 1, TABLE + 1])
+            file = self.make.schema_file(r.choice([0, 1, 2, 3]))
+            return self.add(translate_case(file, (before + [3])[:length]))
+        return self.add(translate_case(self.make.schema_file(wanted), before))
+
+    def proper(self, wanted=None):
+        wish = bool(wanted) if wanted is not None else self.make.chance(0.4)
+        table = None
+        while table is None:
+            table = self.make.own_table(self.r.choice(self.translated()), wish)
+        self.add(proper_case(table))
+
+    def printed(self, wanted=None):
+        r = self.r
+        while True:
+            context = r.choice(self.translated())
+            root = self.make.document(context)
+            if self.make.chance(0.1):
+                root = self.make.change_tree(context, root)
+            tokens = ref.lay(root)
+            schema, doc = context.file, ref.file_of(tokens)
+            edits = []
+            table, buffer, used = context.table, tokens + [0] * 400, len(tokens)
+            for _ in range(r.choice([0, 1, 2, 4, 6])):
+                tree = ref.tree_of(buffer[:used])
+                if tree is None:
+                    break
+                asked = self.make.edit(context, tree, r.choice([1, 1, 2, 3, 4, 4, 5, 0]))
+                edits += [asked[0], asked[1], len(asked[2])] + asked[2]
+                _, _, used, _, buffer = ref.edit(table, buffer, used, *asked)
+            if any(number > LARGEST for number in edits):
+                continue
+            edits = ref.file_of(edits)
+            way = r.random() if wanted != 'lines' else 1
+            if way < 0.1:
+                edits = edits[:r.randrange(len(edits) + 1)]
+            elif way < 0.2:
+                edits = edits + r.choice([[1], [128, 0], ref.file_of([1, 1, 8193]), ref.file_of([1, 1, 8192]), [1, 1]])
+            elif way < 0.3:
+                doc = r.choice([doc + [128], doc[:-1], [], [1, 2], ref.file_of([LARGEST])])
+            elif way < 0.5:
+                schema = self.make.schema_file(r.choice([1, 2, 3]))
+            elif way < 0.55:
+                files = [schema, doc, edits]
+                files[r.randrange(3)] = r.choice([None, None, [0] * 65537])
+                schema, doc, edits = files
+            case = printed_case(schema, doc, edits)
+            if wanted in (None, case.terms[0].number):
+                return self.add(case)
+
+    # -- contexts
+
+    def translated(self):
+        return [c for c in self.contexts if c.file is not None and c.random]
+
+    def own(self):
+        return [c for c in self.contexts if c.file is None and c.good]
+
+    def improper(self):
+        return [c for c in self.contexts if c.file is None and not c.good]
+
+    def new_context(self, **how):
+        self.translated_context(self.make.context(**how), True)
+
+    def translated_context(self, numbers, random=False):
+        """Adds the schema and the case that it is translated. Random cases
+        take only random schemas."""
+        file = ref.file_of(numbers)
+        context = Context(file, ref.translate(file, [0] * TABLE)[1])
+        context.random = random
+        self.contexts.append(context)
+        self.add(translate_case(file, [7] * TABLE), context)
+        return context
+
+    def new_own(self, wish):
+        table = None
+        while table is None:
+            table = self.make.own_table(self.r.choice(self.translated()), wish)
+        self.contexts.append(Context(None, table))
+        self.add(proper_case(table))
+
+    def tree(self, context, wanted, sound):
+        """A document, sound or with some faults."""
+        root = self.make.document(context)
+        faults = 0 if sound else self.r.choice([1, 1, 2, 3])
+        for _ in range(faults):
+            way = self.r.choice(FOR_NUMBER[wanted]) if wanted in FOR_NUMBER and self.make.chance(0.8) else None
+            root = self.make.change_tree(context, root, way)
+        return root
+
+    def candidates(self, contexts):
+        """The contexts' rules; an improper table has those of a translated
+        one."""
+        context = self.r.choice(contexts)
+        return context, context if context.good else self.r.choice(self.translated())
+
+    def check(self, wanted=None, contexts=None):
+        contexts = contexts or (self.improper() if wanted == 13 else self.translated())
+        for _ in range(20000):
+            context, guide = self.candidates(contexts)
+            sound = self.make.chance({0: 0.95, None: 0.4}.get(wanted, 0.1))
+            tokens = ref.lay(self.tree(guide, wanted, sound))
+            if len(tokens) > 300:
+                continue
+            if self.make.chance(0.8 if wanted == 4 else 0.03):
+                tokens = self.make.change_tokens(tokens)
+            buffer, used = self.make.buffer(tokens)
+            number = 13 if not context.good else ref.check_by_schema(context.rules, buffer, used)[0]
+            if wanted in (None, number):
+                return self.add(check_case(context, buffer, used), context)
+        raise SystemExit('no check with answer %s' % wanted)
+
+    def edit(self, operation=None, wanted=None, contexts=None):
+        contexts = contexts or (self.improper() if wanted == 13 else self.translated())
+        for _ in range(40000):
+            context, guide = self.candidates(contexts)
+            root = self.tree(guide, wanted, self.make.chance(0.6))
+            tokens = ref.lay(root)
+            if len(tokens) > 300:
+                continue
+            op = operation if operation is not None else self.r.choice([1, 1, 1, 2, 2, 3, 3, 4, 4, 5, 5])
+            if op == 0:
+                op = self.r.choice([0, 6, 7, 255, 10 ** 6])
+            _, place, piece = self.make.edit(guide, root, op)
+            if self.make.chance(0.4 if wanted == 4 else 0.02):
+                tokens = self.make.change_tokens(tokens)
+            buffer, used = self.make.buffer(tokens)
+            number = 13 if not context.good else \
+                ref.edit_by_schema(context.rules, buffer, used, op, place, piece)[0]
+            if wanted in (None, number):
+                return self.add(edit_case(context, buffer, used, op, place, piece), context)
+        raise SystemExit('no edit %s with answer %s' % (operation, wanted))
+
+    # -- large ones
+
+    def large(self):
+        """The limits: tokens, depth, files, occurrence 63, 48 elements."""
+        add = self.add
+        for count in (8192, 8193):
+            add(read_case([5] * count, [4] * 8200))
+            add(write_case([5] * count, [4] * 8200))
+        add(read_case([5] * 8193 + [128, 0], [4] * 8192))
+        add(read_case([5] * 8192 + [128, 0], [4] * 8192))
+        add(write_case([LARGEST + 1] * 8193, []))
+        add(write_case([300] * 8192, [9] * 16384))
+        add(write_case([300] * 8192, [9] * 16383))
+        shade, small = ref.file_of(ref.SHADE), ref.file_of(ref.SHADE_DOC)
+        edits = ref.file_of([2, 3, 0, 1, 10, 4, 9, 12, 173, 2, 3, 3, 4, 9, 12, 173, 2, 2, 14, 0, 2, 3, 0])
+        add(printed_case(shade, small, edits))
+        add(printed_case(shade, [5] * 8193, []))
+        add(printed_case(shade, [5] * 8192, []))
+        add(printed_case([0] * 65537, None, None))
+        add(printed_case(shade, small, [0] * 65536 + [0]))
+
+        # root (a*), a EMPTY with CDATA 0, an ID 1 and IDREFS 2, all implied
+        wide = self.translated_context([2, 0, 2, 2, 3, 6, 0, 0, 3, 0, 0, 1, 1, 1, 1, 2, 3, 1])
+        full = [1] + [9, 2] * 4095 + [2]
+        for tokens, used in ((full, 8192), (full, 8191), ([1] + [9, 2] * 4096 + [2], 8194)):
+            add(check_case(wide, tokens, used), wide)
+        room = full + [7] * 8
+        for operation, place, piece in ((1, 1, [9, 2]), (2, 3, []), (3, 1, [9, 2]), (3, 8189, [9, 4, 5, 2]),
+                                        (4, 1, [4, 5]), (3, 0, [1] + [9, 2] * 96 + [2]), (1, 1, [9, 2] * 4097),
+                                        (3, 0, full), (4, 1, [4] + [5] * 8192)):
+            add(edit_case(wide, room, 8192, operation, place, piece), wide)
+        many = [1] + [9, 2] * 400 + [2]
+        for operation, place, piece in ((2, 799, []), (1, 801, [9, 12, 5, 2]), (4, 799, [20, 5])):
+            add(edit_case(wide, many + [7] * 8, 802, operation, place, piece), wide)
+        few = [1, 9, 12, 5, 2, 9, 2, 2] + [7] * 9000
+        for piece in ([20] + [5] * 8184, [20] + [5] * 8183, [20] + [5] * 8191, [20] + [5] * 8192):
+            add(edit_case(wide, few, 8, 4, 1, piece), wide)
+
+        # a? inside a: sixty-four deep
+        nest = self.translated_context([1, 0, 2, 2, 2, 5, 0])
+        for depth in (63, 64, 65):
+            tokens = [1] * depth + [2] * depth
+            add(check_case(nest, tokens, len(tokens)), nest)
+            for operation, place, piece in ((1, depth, [1, 2]), (1, depth, [3]), (3, 0, [1] * 64 + [2] * 64),
+                                            (3, 0, [1] * 65 + [2] * 65), (3, depth - 1, [1, 1, 2, 2]),
+                                            (1, 1, [1] * 65 + [2] * 65), (1, 0, [1] * 65 + [2] * 65)):
+                add(edit_case(nest, tokens + [7] * 10, len(tokens), operation, place, piece), nest)
+
+        # occurrence 63: sixty-four names of two elements in turn
+        symbols = [0] * 63 + [6, 7] * 32
+        last = self.translated_context([3, 0, 2, 127] + symbols + [1, 63, 3, 0] + [0, 1, 63, 1, 0] + [0, 0])
+        children = [t for k in range(32) for t in (9, 508, 8 * k + 5, 2, 17, 2)]
+        for some in (children, children[:-2], children + [17, 2], children[6:]):
+            tokens = [1, 508] + [8 * k + 5 for k in range(2)] + some + [2]
+            add(check_case(last, tokens, len(tokens)), last)
+
+        # forty-eight elements, each once in the root's model
+        names = [3] + [1] * 46 + [5 + e for e in range(1, 48)]
+        most = self.translated_context([48, 0, 2, len(names)] + names + [0] + [0, 0] * 47)
+        tokens = [1] + [t for e in range(1, 48) for t in (8 * e + 1, 2)] + [2]
+        add(check_case(most, tokens, len(tokens)), most)
+        add(edit_case(most, tokens + [0] * 4, len(tokens), 1, 95, [8 * 47 + 1, 2]), most)
+        add(edit_case(most, tokens + [0] * 4, len(tokens), 1, 95, [8 * 48 + 1, 2]), most)
+
+        for table in improved(ref.translate(shade, [0] * TABLE)[1], last.table):
+            add(proper_case(table))
+
+        # models at the limits of the file
+        for symbols in ([2] * 254 + [5], [3] * 255 + [5], [0] * 64 + [6] * 65, [0, 2, 6, 6], [1, 0, 6, 7, 0, 6, 8],
+                        [3, 0, 3, 6, 3, 7], [4] * 200 + [0, 6, 7], [1] * 8 + [6] * 9):
+            add(translate_case(ref.file_of(ref.SHADE[:2] + [2, len(symbols)] + symbols + ref.SHADE[9:]), [0] * TABLE))
+
+    # -- all
+
+    def build(self, count):
+        r = self.r
+        self.large()
+        self.fixed = self.total
+        for k in range(max(6, count // 40)):
+            self.new_context()
+        self.new_context(count=30, names=24)
+        self.new_context(count=40, names=36)
+        for _ in range(max(4, count // 60)):
+            self.new_own(True)
+        for _ in range(3):
+            self.new_own(False)
+        operations = {name: op for op, name in OPERATIONS.items()}
+        operations['other'] = 0
+        for call, number in self.missing():
+            if number in self.counts.get(call, {}):
+                continue
+            if call in ('read', 'write', 'translate', 'proper', 'printed'):
+                getattr(self, call)(number)
+            elif call == 'schemaOf':
+                self.translate(number)
+            elif call in ('check', 'checking'):
+                self.check(number)
+            elif call == 'check, own table':
+                self.check(number, self.own())
+            elif call == 'edit, own table':
+                self.edit(None, number, self.own())
+            elif call.startswith('('):
+                while number not in self.counts.get(call, {}):
+                    self.edit(None, number)
+            else:
+                self.edit(operations[call.split()[1]], number)
+        ways = [(self.read, 5), (self.write, 4), (self.translate, 11), (self.proper, 5), (self.printed, 5)]
+        checks = sorted(REQUIRED['check'])
+        pairs = [(op, number) for op, name in OPERATIONS.items() for number in sorted(REQUIRED['editBy ' + name])]
+        ways += [(lambda: self.check(), 4), (lambda: self.check(r.choice(checks)), 10),
+                 (lambda: self.check(r.choice([None, 0, 9]), self.own()), 6),
+                 (lambda: self.edit(), 8), (lambda: self.edit(None, 0), 6),
+                 (lambda: self.edit(*r.choice(pairs)), 20),
+                 (lambda: self.edit(None, r.choice([None, 0, 9, 8, 11, 12]), self.own()), 8)]
+        makers = [way for way, weight in ways for _ in range(weight)]
+        while self.total - self.fixed < count:
+            r.choice(makers)()
+
+
+# ------------------------------------------------------- the scratch check
+
+class Equation:
+    """A group of terms of one module."""
+
+    def __init__(self, module, context, parts):
+        self.module = module
+        self.context = context
+        self.parts = parts           # (case, term)
+
+
+def equations(cases):
+    out, modules = [], 0
+
+    def cut(context, parts):
+        nonlocal modules
+        groups = [[]]
+        for case, part in parts:
+            weight = sum(other.weight for _, other in groups[-1])
+            if len(groups[-1]) >= GROUP or groups[-1] and weight + part.weight > WEIGHT:
+                groups.append([])
+            groups[-1].append((case, part))
+        for at, group in enumerate(groups):
+            modules += at % 4 == 0
+            if group:
+                out.append(Equation('C%03d' % modules, context, group))
+
+    for context in cases.contexts:
+        cut(context, [(case, part) for case in context.cases for part in case.terms])
+    by_call = {}
+    for case in cases.alone:
+        for part in case.terms:
+            by_call.setdefault(part.call, []).append((case, part))
+    for call in sorted(by_call):
+        cut(None, by_call[call])
+    return out
+
+
+def declared(name, context, holds):
+    """One equation: all these Boolean terms are true."""
+    lines = '\n    ∷ '.join(holds) + '\n    ∷ []'
+    if context is not None and context.file is not None:
+        left = 'with-schema (schemaOf file) (λ s.\n    %s)' % lines
+    else:
+        left = 'each (\n    %s)' % lines
+    return '\n%s : %s ≡ true\nunfolding all-open\n%s = refl\n' % (name, left, name)
+
+
+class Scratch:
+    """A repository with the crate `paper` and a crate of equations."""
+
+    def __init__(self, paper):
+        self.folder = tempfile.mkdtemp(prefix='compare-definitions-')
+        crates = os.path.join(self.folder, 'crates')
+        shutil.copytree(paper, os.path.join(crates, 'paper'))
+        os.makedirs(os.path.join(crates, 'cases', 'src'))
+        self.specs = os.path.join(crates, 'cases', 'specs')
+        os.makedirs(self.specs)
+        self.put('crates.txt', 'paper:\ncases: paper\n')
+        self.put('crates/cases/src/lib.rt', '// Only equations: see specs/.\n')
+        self.put('crates/cases/specs/Same.antt', SAME)
+
+    def put(self, name, text):
+        with open(os.path.join(self.folder, name), 'w') as file:
+            file.write(text)
+
+    def check(self, modules):
+        """modules: {name: (context, [(equation name, Boolean terms)])}.
+        Gives the names of the equations that fail; exits if anything else
+        fails."""
+        for name in os.listdir(self.specs):
+            if name not in ('Same.antt',):
+                os.remove(os.path.join(self.specs, name))
+        self.put('crates/cases/specs/Lib.antt', 'pub mod Same\n' + ''.join('pub mod %s\n' % m for m in modules))
+        for name, (context, parts) in modules.items():
+            text = HEAD
+            if context is not None:
+                text += '\nabbrev table : List ℕ\ntable = %s\n' % term(context.table)
+                if context.file is not None:
+                    text += '\nabbrev file : List ℕ\nfile = %s\n' % term(context.file)
+            for label, holds in parts:
+                text += declared(label, context, holds)
+            self.put('crates/cases/specs/%s.antt' % name, text)
+        environment = dict(os.environ, RT_JOBS='1')
+        done = subprocess.run(['rt', 'check'], cwd=self.folder, env=environment, stdout=subprocess.PIPE,
+                              stderr=subprocess.STDOUT)
+        output = done.stdout.decode('utf-8', 'replace')
+        self.put('output.txt', output)
+        if done.returncode == 0:
+            return set()
+        failed, strange = set(), []
+        for line in output.splitlines():
+            if ': error' in line:
+                found = re.search(r'specs/(\w+)\.antt:\d+:\d+: error: `(\w+)`', line)
+                if found and ('differ' in line or 'expected type' in line):
+                    failed.add((found.group(1), found.group(2)))
+                else:
+                    strange.append(line[:600])
+        if strange or not failed:
+            print('\n'.join(strange[:20]) or output[-3000:])
+            print('the equations could not be checked: see %s' % self.folder)
+            sys.exit(2)
+        return failed
+
+
+def locate(scratch, failed):
+    """The failing terms of failing equations, and what the definitions
+    answer there."""
+    modules, by_name = {}, {}
+    for equation in failed:
+        _, parts = modules.setdefault(equation.module, (equation.context, []))
+        for case, part in equation.parts:
+            label = 'e%d' % len(parts)
+            parts.append((label, [part.holds]))
+            by_name[equation.module, label] = (equation, case, part)
+    bad = [by_name[name] for name in sorted(scratch.check(modules))]
+    lines = []
+    for equation, case, part in bad[:20]:
+        answers = []
+        for label, text, candidates in part.probes:
+            if candidates is None:
+                parts = [('p0', [text])]
+            else:
+                parts = [('p%d' % k, ['eqb (%s) %d' % (text, k)]) for k in candidates]
+            wrong = {name for _, name in scratch.check({'P': (equation.context, parts)})}
+            right = [name[1:] for name, _ in parts if name not in wrong]
+            if candidates is None:
+                answers.append('%s: %s' % (label, 'yes' if right else 'no'))
+            else:
+                answers.append('%s %s' % (label, right[0] if right else 'none of those tried'))
+        lines.append('%s, expected %s' % (part.call, part.number))
+        if equation.context is not None:
+            lines.append('    schema file: %s' % equation.context.file)
+            if equation.context.file is None:
+                lines.append('    table: %s' % term(equation.context.table))
+        lines.append(case.told)
+        lines.append('    definitions: %s' % ('; '.join(answers) or 'not as expected'))
+        lines.append('')
+    return bad, '\n'.join(lines)
+
+
+def main():
+    words = sys.argv[1:]
+    keep = '--keep' in words
+    paper = PAPER
+    if keep:
+        words.remove('--keep')
+    if '--paper' in words:
+        at = words.index('--paper')
+        paper = words[at + 1]
+        del words[at:at + 2]
+    seed = int(words[0]) if words else 1
+    count = int(words[1]) if len(words) > 1 else 600
+    began = time.time()
+    cases = Cases(seed)
+    cases.build(count)
+    made = time.time()
+    all_equations = equations(cases)
+    print('seed %d: %d random cases and %d fixed ones, %d comparisons, made in %.0f s' %
+          (seed, cases.total - cases.fixed, cases.fixed, sum(len(equation.parts) for equation in all_equations),
+           made - began))
+    modules, names = {}, {}
+    for equation in all_equations:
+        _, parts = modules.setdefault(equation.module, (equation.context, []))
+        label = 'g%d' % len(parts)
+        parts.append((label, [part.holds for _, part in equation.parts]))
+        names[equation.module, label] = equation
+    scratch = Scratch(paper)
+    sys.stdout.flush()
+    failed = scratch.check(modules)
+    print('%d equations computed in %.0f s' % (len(all_equations), time.time() - made))
+    print()
+    for call in REQUIRED:
+        row = cases.counts.get(call, {})
+        print('%-18s %5d   %s' % (call, sum(row.values()), '  '.join(
+            '%s: %d' % (number, row[number]) for number in sorted(row, key=lambda n: (str(type(n)), n)))))
+    print()
+    status = 0
+    missing = cases.missing()
+    if missing:
+        status = 1
+        print('did not occur: %s' % missing)
+    if failed:
+        status = 1
+        bad, report = locate(scratch, [names[name] for name in sorted(failed)])
+        scratch.put('failures.txt', report)
+        print('%d comparisons differ; the first 20 are in %s' % (len(bad), os.path.join(scratch.folder, 'failures.txt')))
+        print(report[:4000])
+    else:
+        print('all equal')
+        if keep:
+            print('kept: %s' % scratch.folder)
+        else:
+            shutil.rmtree(scratch.folder)
+    sys.exit(status)
+
+
+if __name__ == '__main__':
+    main()

@@ -1,0 +1,1016 @@
+#!/usr/bin/env python3
+"""A second program for the paper "What is to be built", written from the paper alone.
+
+Everything is done on trees: a content model is an expression tree, a document
+is a tree of elements, an edit changes the tree, and the tree is judged.
+
+    python3 reference.py        runs the self test
+"""
+
+import sys
+
+sys.setrecursionlimit(20000)
+
+TOKENS = 8192            # most tokens of a document or a piece
+LARGEST = 2097151        # largest number of a file
+DEPTH = 64               # most elements inside one another
+TABLE = 6626             # numbers of a table
+BLOCK = 138              # numbers of one element in a table
+FILE = 65536             # most bytes of a file of the edit program
+
+START, END, TEXT, ATTRIBUTE, VALUE = 1, 2, 3, 4, 5
+CDATA, ID, IDREF, IDREFS = 0, 1, 2, 3
+
+
+class Refused(Exception):
+    """An answer other than 0."""
+
+    def __init__(self, number, place=0):
+        Exception.__init__(self, number, place)
+        self.number = number
+        self.place = place
+
+
+# ---------------------------------------------------------------- numbers
+
+class Source:
+    """A file of seven-bit groups, read from the front."""
+
+    def __init__(self, file):
+        self.file = file
+        self.at = 0
+
+    def ended(self):
+        return self.at >= len(self.file)
+
+    def next(self):
+        number = 0
+        for group in range(3):
+            if self.ended():
+                raise Refused(1)
+            byte = self.file[self.at]
+            self.at += 1
+            number += (byte % 128) << (7 * group)
+            if byte < 128:
+                if byte == 0 and group > 0:
+                    raise Refused(1)
+                return number
+        raise Refused(1)         # the third byte calls for a fourth
+
+
+def groups(number):
+    """The bytes of one number, shortest form."""
+    out = []
+    while number >= 128:
+        out.append(128 + number % 128)
+        number //= 128
+    out.append(number)
+    return out
+
+
+def read(file, buffer):
+    """(number, count of tokens, buffer after)"""
+    source = Source(file)
+    after = list(buffer)
+    count = 0
+    try:
+        while not source.ended():
+            token = source.next()
+            if count >= len(buffer) or count >= TOKENS:
+                raise Refused(5)
+            after[count] = token
+            count += 1
+    except Refused as refused:
+        return refused.number, 0, list(buffer)
+    return 0, count, after
+
+
+def write(tokens, buffer):
+    """(number, count of bytes, buffer after)"""
+    if len(tokens) > TOKENS:
+        return 5, 0, list(buffer)
+    if any(token > LARGEST for token in tokens):
+        return 4, 0, list(buffer)
+    out = [byte for token in tokens for byte in groups(token)]
+    if len(out) > len(buffer):
+        return 5, 0, list(buffer)
+    return 0, len(out), out + list(buffer[len(out):])
+
+
+# ------------------------------------------------------------ expressions
+
+class Name:
+    """One occurrence of an element's name."""
+
+    def __init__(self, name, occurrence):
+        self.name = name
+        self.occurrence = occurrence
+        self.empty = False
+
+
+class Sequence:
+    def __init__(self, left, right):
+        self.left = left
+        self.right = right
+        self.empty = left.empty and right.empty
+
+
+class Choice:
+    def __init__(self, left, right):
+        self.left = left
+        self.right = right
+        self.empty = left.empty or right.empty
+
+
+class Optional:
+    def __init__(self, part):
+        self.part = part
+        self.empty = True
+
+
+class Star:
+    def __init__(self, part):
+        self.part = part
+        self.empty = True
+
+
+class Plus:
+    def __init__(self, part):
+        self.part = part
+        self.more = Star(part)
+        self.empty = part.empty
+
+
+def expression(symbols):
+    """The tree of exactly one expression, operators first, and its names;
+    None if the symbols are no such thing."""
+    names = []
+
+    def part(at):
+        if at >= len(symbols):
+            return None
+        symbol = symbols[at]
+        if symbol >= 5:
+            name = Name(symbol - 5, len(names))
+            names.append(name)
+            return name, at + 1
+        one = part(at + 1)
+        if one is None:
+            return None
+        if symbol in (0, 1):
+            two = part(one[1])
+            if two is None:
+                return None
+            return (Sequence, Choice)[symbol](one[0], two[0]), two[1]
+        return (None, None, Optional, Star, Plus)[symbol](one[0]), one[1]
+
+    whole = part(0)
+    if whole is None or whole[1] != len(symbols):
+        return None
+    return whole[0], names
+
+
+class Model:
+    """A content model. What is still to be matched is a tuple of expressions,
+    one after another. A step takes one name occurrence and leaves the rest."""
+
+    def __init__(self, tree, names):
+        self.tree = tree
+        self.names = names
+        self.known = {}
+
+    def steps(self, rest):
+        """All (occurrence, rest after it) that can come next."""
+        if rest in self.known:
+            return self.known[rest]
+        found = []
+
+        def add(step):
+            if step not in found:
+                found.append(step)
+
+        def begin(tree, after):
+            if isinstance(tree, Name):
+                add((tree, after))
+            elif isinstance(tree, Sequence):
+                begin(tree.left, (tree.right,) + after)
+                if tree.left.empty:
+                    begin(tree.right, after)
+            elif isinstance(tree, Choice):
+                begin(tree.left, after)
+                begin(tree.right, after)
+            elif isinstance(tree, Optional):
+                begin(tree.part, after)
+            elif isinstance(tree, Star):
+                begin(tree.part, (tree,) + after)
+            else:
+                begin(tree.part, (tree.more,) + after)
+
+        for k, tree in enumerate(rest):
+            begin(tree, rest[k + 1:])
+            if not tree.empty:
+                break
+        self.known[rest] = found
+        return found
+
+    @staticmethod
+    def full(rests):
+        """Whether nothing more need follow one of the rests."""
+        return any(all(tree.empty for tree in rest) for rest in rests)
+
+    def begin(self):
+        """The rests of the empty run."""
+        return frozenset([(self.tree,)])
+
+    def next(self, rests):
+        """{occurrence: rests after it}"""
+        found = {}
+        for rest in rests:
+            for occurrence, after in self.steps(rest):
+                found.setdefault(occurrence, set()).add(after)
+        return {occurrence: frozenset(after) for occurrence, after in found.items()}
+
+    def runs(self):
+        """Every (last occurrence, rests) that a run of occurrences leaves;
+        the last occurrence of the empty run is None."""
+        seen = {(None, self.begin())}
+        queue = [(None, self.begin())]
+        for _, rests in queue:
+            for step in self.next(rests).items():
+                if step not in seen:
+                    seen.add(step)
+                    queue.append(step)
+        return queue
+
+    def hopeful(self):
+        """The rests from which a full match can be reached."""
+        runs = [rests for _, rests in self.runs()]
+        good = {rests for rests in runs if self.full(rests)}
+        growing = True
+        while growing:
+            growing = False
+            for rests in runs:
+                if rests not in good and any(r in good for r in self.next(rests).values()):
+                    good.add(rests)
+                    growing = True
+        return good
+
+    def ambiguous(self):
+        """Some run can be continued, each time towards a full match, by two
+        different occurrences of one name."""
+        good = self.hopeful()
+        for _, rests in self.runs():
+            names = [o.name for o, after in self.next(rests).items() if after in good]
+            if len(set(names)) != len(names):
+                return True
+        return False
+
+    def describes(self, children):
+        """Whether the expression describes this sequence of names."""
+        rests = self.begin()
+        for child in children:
+            rests = frozenset(after for rest in rests
+                              for occurrence, after in self.steps(rest)
+                              if occurrence.name == child)
+        return self.full(rests)
+
+
+# ----------------------------------------------------------------- schema
+
+class Declared:
+    """What is declared of one element: kind, attributes
+    {number: (kind, required)} and, for kind 2, a model."""
+
+    def __init__(self, kind, attributes, model):
+        self.kind = kind
+        self.attributes = attributes
+        self.model = model
+
+
+class Schema:
+    def __init__(self, root, elements):
+        self.root = root
+        self.elements = elements
+
+
+def _value(source, low, high):
+    number = source.next()
+    if not low <= number <= high:
+        raise Refused(2)
+    return number
+
+
+def schema_of(file):
+    """The schema of a file; raises Refused."""
+    source = Source(file)
+    count = _value(source, 1, 48)
+    root = _value(source, 0, count - 1)
+    elements = []
+    for _ in range(count):
+        kind = _value(source, 0, 2)
+        model = None
+        if kind == 2:
+            symbols = []
+            for _ in range(_value(source, 1, 255)):
+                symbols.append(_value(source, 0, 4 + count))
+            parsed = expression(symbols)
+            if parsed is None or len(parsed[1]) > 64:
+                raise Refused(2)
+            model = Model(*parsed)
+            if model.ambiguous():
+                raise Refused(3)
+        attributes = {}
+        lowest = 0
+        for _ in range(_value(source, 0, 64)):
+            number = _value(source, lowest, 63)
+            lowest = number + 1
+            attribute = _value(source, 0, 3)
+            if attribute == ID and ID in [k for k, _ in attributes.values()]:
+                raise Refused(2)
+            required = _value(source, 0, 1) == 0
+            attributes[number] = (attribute, required)
+        elements.append(Declared(kind, attributes, model))
+    if not source.ended():
+        raise Refused(2)
+    return Schema(root, elements)
+
+
+def _bits(members):
+    return sum(1 << member for member in set(members))
+
+
+def table_of(schema):
+    table = [len(schema.elements), schema.root]
+    for element in schema.elements:
+        given = element.attributes.items()
+        block = [element.kind,
+                 _bits(a for a, _ in given),
+                 _bits(a for a, (_, required) in given if required)]
+        for wanted in (ID, IDREF, IDREFS):
+            block.append(_bits(a for a, (kind, _) in given if kind == wanted))
+        if element.kind == 2:
+            model = element.model
+            follow = {name.occurrence: set() for name in model.names}
+            first, last = set(), set()
+            for before, rests in model.runs():
+                following = {name.occurrence for name in model.next(rests)}
+                if before is None:
+                    first |= following
+                else:
+                    follow[before.occurrence] |= following
+                    if model.full(rests):
+                        last.add(before.occurrence)
+            n = len(model.names)
+            block += [n, int(model.full(model.begin())), _bits(first), _bits(last)]
+            block += [name.name for name in model.names] + [0] * (64 - n)
+            block += [_bits(follow[k]) for k in range(n)] + [0] * (64 - n)
+        table += block + [0] * (BLOCK - len(block))
+    return table + [0] * (TABLE - len(table))
+
+
+def translate(file, table):
+    """(number, table after)"""
+    if len(table) != TABLE:
+        return 13, list(table)
+    try:
+        return 0, table_of(schema_of(file))
+    except Refused as refused:
+        return refused.number, list(table)
+
+
+# ------------------------------------------------------------------ table
+
+def _members(bits):
+    return {k for k in range(bits.bit_length()) if bits >> k & 1}
+
+
+class Block:
+    """The parts of one block of a table."""
+
+    def __init__(self, numbers):
+        self.kind = numbers[0]
+        self.allowed, self.required, self.id, self.idref, self.idrefs = map(_members, numbers[1:6])
+        self.rest = numbers[6:]
+        self.n, self.none = numbers[6:8]
+        self.first, self.last = map(_members, numbers[8:10])
+        self.names = numbers[10:74]
+        self.follow = [_members(bits) for bits in numbers[74:138]]
+
+
+def _blocks(table):
+    return [table[at:at + BLOCK] for at in range(2, TABLE, BLOCK)]
+
+
+def proper(table):
+    if len(table) != TABLE or any(number >= 1 << 64 for number in table):
+        return False
+    count, root = table[0], table[1]
+    if not 1 <= count <= 48 or root >= count:
+        return False
+    blocks = _blocks(table)
+    if any(any(numbers) for numbers in blocks[count:]):
+        return False
+    return all(_proper_block(Block(numbers), count) for numbers in blocks[:count])
+
+
+def _proper_block(block, count):
+    if block.kind > 2:
+        return False
+    for part in (block.required, block.id, block.idref, block.idrefs):
+        if not part <= block.allowed:
+            return False
+    if block.id & block.idref or block.id & block.idrefs or block.idref & block.idrefs:
+        return False
+    if len(block.id) > 1:
+        return False
+    if block.kind != 2:
+        return not any(block.rest)
+    n = block.n
+    if not 1 <= n <= 64 or block.none > 1:
+        return False
+    if any(block.names[n:]) or any(block.follow[n:]):
+        return False
+    if any(name >= count for name in block.names[:n]):
+        return False
+    lowest = set(range(n))
+    if not block.last <= lowest:
+        return False
+    for chosen in [block.first] + block.follow[:n]:
+        if not chosen <= lowest:
+            return False
+        if len({block.names[k] for k in chosen}) != len(chosen):
+            return False
+    return True
+
+
+class Run:
+    """The model of a table: begin in first, move by follow, end in last, or
+    by the no-child flag."""
+
+    def __init__(self, block):
+        self.block = block
+
+    def describes(self, children):
+        block = self.block
+        if not children:
+            return block.none == 1
+        standing = {k for k in block.first if block.names[k] == children[0]}
+        for child in children[1:]:
+            standing = {k for s in standing for k in block.follow[s] if block.names[k] == child}
+        return bool(standing & block.last)
+
+
+def rules_of(table):
+    """A proper table in the form of a schema."""
+    elements = []
+    for numbers in _blocks(table)[:table[0]]:
+        block = Block(numbers)
+        attributes = {}
+        for number in block.allowed:
+            kind = (ID if number in block.id else IDREF if number in block.idref
+                    else IDREFS if number in block.idrefs else CDATA)
+            attributes[number] = (kind, number in block.required)
+        elements.append(Declared(block.kind, attributes, Run(block) if block.kind == 2 else None))
+    return Schema(table[1], elements)
+
+
+# --------------------------------------------------------------- document
+
+class Text:
+    def __init__(self, number):
+        self.number = number
+        self.parent = None
+        self.place = None
+
+
+class Element:
+    def __init__(self, name):
+        self.name = name
+        self.attributes = {}         # number: list of value numbers
+        self.values = []             # (attribute, value, place), set by `lay`
+        self.children = []
+        self.parent = None
+        self.place = None            # of the start, set by `lay`
+        self.end = None              # place of the end, set by `lay`
+
+    def height(self):
+        return 1 + max([c.height() for c in self.children if isinstance(c, Element)], default=0)
+
+    def elements(self):
+        """This element and all inside it, by rising start place."""
+        yield self
+        for child in self.children:
+            if isinstance(child, Element):
+                yield from child.elements()
+
+
+def well_made(token):
+    number, sort = divmod(token, 8)
+    return number <= 65535 and sort in (START, END, TEXT, ATTRIBUTE, VALUE) and \
+        (sort != END or number == 0)
+
+
+def tree_of(tokens):
+    """The tree of a document that has shape, else None."""
+    if not 2 <= len(tokens) <= TOKENS or not all(map(well_made, tokens)):
+        return None
+    root = None
+    open_ones = []
+    attribute = None      # values of the attribute being read
+    head = False          # attributes may still come
+    for token in tokens:
+        number, sort = divmod(token, 8)
+        if root is not None and not open_ones:
+            return None   # a token after the root's end
+        if not open_ones and sort != START:
+            return None
+        if attribute == [] and sort != VALUE:
+            return None   # an attribute without a value
+        if sort == VALUE:
+            if attribute is None:
+                return None
+            attribute.append(number)
+            continue
+        attribute = None
+        if sort == ATTRIBUTE:
+            given = open_ones[-1].attributes
+            if not head or any(earlier >= number for earlier in given):
+                return None
+            attribute = given[number] = []
+            continue
+        head = False
+        if sort == START:
+            element = Element(number)
+            if open_ones:
+                adopt(open_ones[-1], len(open_ones[-1].children), element)
+            else:
+                root = element
+            open_ones.append(element)
+            if len(open_ones) > DEPTH:
+                return None
+            head = True
+        elif sort == TEXT:
+            adopt(open_ones[-1], len(open_ones[-1].children), Text(number))
+        else:
+            open_ones.pop()
+    return root if not open_ones else None
+
+
+def adopt(parent, index, child):
+    parent.children.insert(index, child)
+    child.parent = parent
+
+
+def lay(root):
+    """The tokens of a tree; every part is told its place."""
+    tokens = []
+
+    def lay_part(part):
+        part.place = len(tokens)
+        if isinstance(part, Text):
+            tokens.append(8 * part.number + TEXT)
+            return
+        tokens.append(8 * part.name + START)
+        part.values = []
+        for number in sorted(part.attributes):
+            tokens.append(8 * number + ATTRIBUTE)
+            for value in part.attributes[number]:
+                part.values.append((number, value, len(tokens)))
+                tokens.append(8 * value + VALUE)
+        for child in part.children:
+            lay_part(child)
+        part.end = len(tokens)
+        tokens.append(END)
+
+    lay_part(root)
+    return tokens
+
+
+def document(buffer, used):
+    """The tree of the used part of a buffer; raises Refused."""
+    if used > len(buffer):
+        raise Refused(4)
+    root = tree_of(buffer[:used])
+    if root is None:
+        raise Refused(4)
+    return root
+
+
+def judge(rules, root, touched=None):
+    """Judges a tree that has been laid; raises Refused. Names, attributes and
+    content are asked of the touched elements, of all if `touched` is None."""
+    if root.name != rules.root:
+        raise Refused(10, 0)
+    chosen = None if touched is None else set(touched)
+    for element in root.elements():
+        if chosen is None or element in chosen:
+            judge_element(rules, element)
+    marked = []
+    for element in root.elements():
+        if element.name < len(rules.elements):
+            declared = rules.elements[element.name].attributes
+            for attribute, value, place in element.values:
+                if attribute in declared:
+                    marked.append((place, declared[attribute][0], value))
+    ids = set()
+    for place, kind, value in marked:
+        if kind == ID:
+            if value in ids:
+                raise Refused(11, place)
+            ids.add(value)
+    for place, kind, value in marked:
+        if kind in (IDREF, IDREFS) and value not in ids:
+            raise Refused(12, place)
+
+
+def judge_element(rules, element):
+    if element.name >= len(rules.elements):
+        raise Refused(7, element.place)
+    declared = rules.elements[element.name]
+    for number, values in element.attributes.items():
+        if number not in declared.attributes:
+            raise Refused(8, element.place)
+        if len(values) != 1 and declared.attributes[number][0] != IDREFS:
+            raise Refused(8, element.place)
+    for number, (_, required) in declared.attributes.items():
+        if required and number not in element.attributes:
+            raise Refused(8, element.place)
+    names = [c.name for c in element.children if isinstance(c, Element)]
+    texts = len(element.children) - len(names)
+    if declared.kind == 0:
+        fits = not names and texts == 0
+    elif declared.kind == 1:
+        fits = not names and texts == 1
+    else:
+        fits = texts == 0 and declared.model.describes(names)
+    if not fits:
+        raise Refused(9, element.place)
+
+
+def check_by_schema(schema, buffer, used):
+    """(number, place)"""
+    try:
+        root = document(buffer, used)
+        lay(root)
+        judge(schema, root)
+    except Refused as refused:
+        return refused.number, refused.place
+    return 0, 0
+
+
+def check(table, buffer, used):
+    """(number, place)"""
+    if not proper(table):
+        return 13, 0
+    return check_by_schema(rules_of(table), buffer, used)
+
+
+# ------------------------------------------------------------------ edits
+
+def piece_of(operation, piece):
+    """The piece as a part or as an attribute; raises Refused."""
+    if len(piece) > TOKENS:
+        raise Refused(4)
+    if operation == 2:
+        if piece:
+            raise Refused(4)
+        return None
+    if operation in (1, 3):
+        if len(piece) == 1 and well_made(piece[0]) and piece[0] % 8 == TEXT:
+            return Text(piece[0] // 8)
+        part = tree_of(piece)
+        if part is None:
+            raise Refused(4)
+        return part
+    sorts = [token % 8 for token in piece]
+    if not all(map(well_made, piece)) or sorts[:1] != [ATTRIBUTE]:
+        raise Refused(4)
+    if operation == 4:
+        if len(piece) < 2 or any(sort != VALUE for sort in sorts[1:]):
+            raise Refused(4)
+    elif len(piece) != 1:
+        raise Refused(4)
+    return piece[0] // 8, [token // 8 for token in piece[1:]]
+
+
+def find(root, place):
+    """What stands at a place: (START, element), (TEXT, text), (END, element)
+    or None."""
+    queue = [root]
+    while queue:
+        part = queue.pop()
+        if isinstance(part, Text):
+            if part.place == place:
+                return TEXT, part
+        else:
+            if part.place == place:
+                return START, part
+            if part.end == place:
+                return END, part
+            if part.place < place < part.end:
+                queue.extend(part.children)
+    return None
+
+
+def changed(root, operation, place, piece, given):
+    """The tree after an edit and the touched elements; raises Refused."""
+    spot = find(root, place)
+    if spot is None:
+        raise Refused(6)
+    sort, there = spot
+    new_ones = list(given.elements()) if isinstance(given, Element) else []
+    if operation == 1:
+        if place == 0:
+            raise Refused(6)
+        if sort == END:
+            parent, index = there, len(there.children)
+        else:
+            parent, index = there.parent, there.parent.children.index(there)
+        adopt(parent, index, given)
+        return root, [parent] + new_ones
+    if operation == 2:
+        if sort == END or place == 0:
+            raise Refused(6)
+        there.parent.children.remove(there)
+        return root, [there.parent]
+    if operation == 3:
+        if sort == END:
+            raise Refused(6)
+        if place == 0:
+            if isinstance(given, Text):
+                raise Refused(6)
+            return given, new_ones
+        parent = there.parent
+        index = parent.children.index(there)
+        parent.children.remove(there)
+        adopt(parent, index, given)
+        return root, [parent] + new_ones
+    if sort != START:
+        raise Refused(6)
+    number, values = given
+    if operation == 4:
+        there.attributes[number] = values
+    else:
+        if number not in there.attributes:
+            raise Refused(6)
+        del there.attributes[number]
+    return root, [there]
+
+
+def edit_by_schema(schema, buffer, used, operation, place, piece):
+    """(number, place, used after, change, buffer after)"""
+    try:
+        root = document(buffer, used)
+        lay(root)
+        if not 1 <= operation <= 5:
+            raise Refused(6)
+        given = piece_of(operation, piece)
+        root, touched = changed(root, operation, place, piece, given)
+        tokens = lay(root)
+        if len(tokens) > TOKENS or len(tokens) > len(buffer) or root.height() > DEPTH:
+            raise Refused(5)
+        judge(schema, root, touched)
+    except Refused as refused:
+        return refused.number, refused.place, used, 0, list(buffer)
+    length = len(tokens)
+    after = tokens + [0] * (used - length) + list(buffer[max(used, length):])
+    return 0, 0, length, length - used, after
+
+
+def edit(table, buffer, used, operation, place, piece):
+    """(number, place, used after, change, buffer after)"""
+    if not proper(table):
+        return 13, 0, used, 0, list(buffer)
+    return edit_by_schema(rules_of(table), buffer, used, operation, place, piece)
+
+
+# ---------------------------------------------------------------- program
+
+def program(schema_file, doc_file, edits_file):
+    """The bytes that the edit program prints. None is a file that cannot be
+    opened."""
+    out = []
+    try:
+        run(schema_file, doc_file, edits_file, out)
+    except Refused as refused:
+        out.append('stop %d' % refused.number)
+    return ''.join(line + '\n' for line in out).encode()
+
+
+def run(schema_file, doc_file, edits_file, out):
+    for file in (schema_file, doc_file, edits_file):
+        if file is None or len(file) > FILE:
+            raise Refused(5)
+    number, table = translate(schema_file, [0] * TABLE)
+    if number:
+        raise Refused(number)
+    number, used, buffer = read(doc_file, [0] * TOKENS)
+    if number:
+        raise Refused(number)
+    number, place = check(table, buffer, used)
+    out.append('0 %d %d %d' % (number, place, used))
+    if number:
+        return
+    source = Source(edits_file)
+    line = 0
+    while not source.ended():
+        operation = source.next()
+        place = source.next()
+        count = source.next()
+        if count > TOKENS:
+            raise Refused(5)
+        piece = [source.next() for _ in range(count)]
+        number, place, used, _, buffer = edit(table, buffer, used, operation, place, piece)
+        line += 1
+        out.append('%d %d %d %d' % (line, number, place, used))
+
+
+# -------------------------------------------------------------- self test
+
+def file_of(numbers):
+    return [byte for number in numbers for byte in groups(number)]
+
+
+SHADE = [4, 0, 2, 5, 0, 4, 6, 3, 8, 1, 0, 0, 0, 2, 2, 3, 7, 1, 1, 1, 0, 1, 0, 0, 1, 2, 2, 0]
+SHADE_DOC = [1, 4, 61, 9, 12, 165, 17, 243, 2, 2, 25, 20, 165, 2, 2]
+
+
+def self_test():
+    import itertools
+    import random
+
+    done = [0]
+
+    def same(got, wanted):
+        done[0] += 1
+        if got != wanted:
+            raise SystemExit('self test %d: got %r, wanted %r' % (done[0], got, wanted))
+
+    # numbers
+    for number, form in ((0, [0]), (127, [127]), (128, [128, 1]), (LARGEST, [255, 255, 127])):
+        same(groups(number), form)
+        same(Source(form).next(), number)
+    for broken in ([128], [128, 128], [128, 128, 128], [128, 128, 128, 1], [128, 0], [255, 255, 0]):
+        same(read(broken, [7] * 3), (1, 0, [7] * 3))
+    same(read([], [7]), (0, 0, [7]))
+    same(read([128, 1, 5], [7] * 3), (0, 2, [128, 5, 7]))
+    same(read([5, 5], [7]), (5, 0, [7]))
+    same(read([5, 128, 0], [7]), (1, 0, [7]))
+    same(read([5, 6, 128, 0], [7]), (5, 0, [7]))
+    same(read([1] * 8193, [0] * 9000)[:2], (5, 0))
+    same(read([1] * 8192, [0] * 9000)[:2], (0, 8192))
+    same(write([128, 5], [7] * 4), (0, 3, [128, 1, 5, 7]))
+    same(write([128, 5], [7] * 2), (5, 0, [7] * 2))
+    same(write([LARGEST + 1], []), (4, 0, []))
+    same(write([LARGEST + 1] * 8193, []), (5, 0, []))
+
+    # the four models, and sixty-five names
+    def with_model(symbols):
+        # the small shade with this model at its first element
+        numbers = SHADE[:2] + [2, len(symbols)] + symbols + SHADE[9:]
+        return translate(file_of(numbers), [0] * TABLE)[0]
+
+    a, b, c = 6, 7, 8
+    same(with_model([0, 2, a, a]), 3)
+    same(with_model([1, 0, a, b, 0, a, c]), 3)
+    same(with_model([3, 0, 3, a, 3, b]), 0)
+    same(with_model([0] * 63 + [a] * 64), 0)
+    same(with_model([0] * 64 + [a] * 65), 2)
+
+    # the small shade
+    number, table = translate(file_of(SHADE), [0] * TABLE)
+    same(number, 0)
+    same(proper(table), True)
+    same(table[:2], [4, 0])
+    same(table[2:14], [2, 1, 1, 0, 0, 0, 2, 0, 1, 3, 1, 3])
+    same(table[2 + 74:2 + 77], [3, 2, 0])
+    schema = schema_of(file_of(SHADE))
+    same(check(table, SHADE_DOC, 15), (0, 0))
+    same(check_by_schema(schema, SHADE_DOC, 15), (0, 0))
+
+    def try_edit(operation, place, piece, wanted):
+        room = SHADE_DOC + [99] * 10
+        got = edit(table, room, 15, operation, place, piece)
+        same(edit_by_schema(schema, room, 15, operation, place, piece), got)
+        if wanted[0]:
+            same(got, (wanted[0], wanted[1], 15, 0, room))
+        else:
+            same(got[:4], (0, 0, wanted[1], wanted[1] - 15))
+            same(len(got[4]), 25)
+            same(got[4][max(wanted[1], 15):], room[max(wanted[1], 15):])
+            same(set(got[4][wanted[1]:15]) <= {0}, True)
+            same(check(table, got[4], got[2]), (0, 0))
+
+    try_edit(2, 3, [], (9, 0))
+    try_edit(2, 10, [], (0, 11))
+    try_edit(2, 7, [], (9, 6))
+    try_edit(1, 10, [9, 12, 165, 2], (11, 12))
+    try_edit(1, 10, [9, 12, 173, 2], (0, 19))
+    try_edit(1, 3, [25, 20, 165, 2], (9, 0))
+    try_edit(1, 10, [25, 20, 165, 2], (0, 19))
+    try_edit(3, 3, [9, 12, 173, 2], (12, 9))
+    try_edit(5, 3, [12], (8, 3))
+    for place in (0, 1, 15):
+        try_edit(1, place, [25, 20, 165, 2], (6, 0))
+    try_edit(1, 14, [25, 20, 165, 2], (0, 19))
+    try_edit(1, 14, [9, 12, 173, 2], (9, 0))
+
+    edits = [2, 3, 0, 1, 10, 4, 9, 12, 173, 2, 3, 3, 4, 9, 12, 173, 2, 2, 14, 0, 2, 3, 0]
+    files = [file_of(SHADE), file_of(SHADE_DOC), file_of(edits)]
+    lines = b'0 0 0 15\n1 9 0 15\n2 0 0 19\n3 11 9 19\n4 0 0 15\n5 0 0 8\n'
+    same(program(*files), lines)
+    same(program(files[0], files[1], files[2] + [2]), lines + b'stop 1\n')
+    same(program(files[0], files[1], files[2] + file_of([1, 1, 8193])), lines + b'stop 5\n')
+    same(program(files[0], [1, 2], files[2]), b'0 8 0 2\n')
+    same(program(files[0], [128], files[2]), b'stop 1\n')
+    same(program(files[0] + [0], [128], files[2]), b'stop 2\n')
+    same(program(files[0] + [0], [128], None), b'stop 5\n')
+    same(program(files[0] + [0], [0] * 65537, []), b'stop 5\n')
+
+    # occurrence 63
+    symbols = [3] + [1] * 63 + [5 + k for k in range(47)] + [5 + 47] * 17
+    same(Model(*expression(symbols)).ambiguous(), True)
+    symbols = [0] * 63 + [6] * 64
+    top = table_of(Schema(0, [Declared(2, {}, Model(*expression(symbols))), Declared(0, {}, None)]))
+    same(top[2 + 9], 1 << 63)
+    same(top[2 + 74 + 62], 1 << 63)
+    many = [1] + [9, 2] * 64 + [2]
+    same(check(top, many, 130), (0, 0))
+    same(check(top, many[:-3] + [2], 128), (9, 0))
+
+    # depth
+    nest = translate(file_of([1, 0, 2, 2, 2, 5, 0]), [0] * TABLE)[1]
+    same(check(nest, [1] * 64 + [2] * 64, 128), (0, 0))
+    same(check(nest, [1] * 65 + [2] * 65, 130), (4, 0))
+    same(edit(nest, [1] * 63 + [2] * 63 + [0] * 4, 126, 1, 63, [1, 1, 2, 2])[:4], (5, 0, 126, 0))
+    same(edit(nest, [1] * 63 + [2] * 63 + [0] * 4, 126, 1, 63, [1, 2])[:4], (0, 0, 128, 2))
+    same(edit(nest, [1] * 63 + [2] * 63 + [0] * 4, 126, 1, 63, [1] * 65 + [2] * 65)[:2], (4, 0))
+
+    # random models: words found by spelling out the expression, against
+    # steps, ambiguity and the run of the table
+    chance = random.Random(5)
+
+    def random_symbols(size):
+        if size == 1:
+            return [5 + chance.randrange(3)]
+        if size == 2 or chance.random() < 0.4:
+            return [chance.randrange(2, 5)] + random_symbols(size - 1)
+        left = chance.randrange(1, size - 1)
+        return [chance.randrange(2)] + random_symbols(left) + random_symbols(size - 1 - left)
+
+    def spelled(tree, most):
+        """All runs of at most `most` occurrences that match."""
+        if isinstance(tree, Name):
+            return {(tree,)} if most >= 1 else set()
+        if isinstance(tree, Choice):
+            return spelled(tree.left, most) | spelled(tree.right, most)
+        if isinstance(tree, Optional):
+            return spelled(tree.part, most) | {()}
+        if isinstance(tree, Sequence):
+            right = spelled(tree.right, most)
+            return {l + r for l in spelled(tree.left, most) for r in right if len(l + r) <= most}
+        part = spelled(tree.part, most)
+        all_ = set(part) if isinstance(tree, Plus) else {()}
+        while True:
+            more = all_ | {l + r for l in all_ for r in part if len(l + r) <= most}
+            if more == all_:
+                return all_
+            all_ = more
+
+    for _ in range(400):
+        symbols = random_symbols(chance.randrange(1, 8))
+        tree, names = expression(symbols)
+        model = Model(tree, names)
+        words = spelled(tree, 6)
+        begun = {w[:k] for w in words for k in range(len(w) + 1)}
+        two = False
+        for run_ in begun:
+            after = {w[len(run_)] for w in words if w[:len(run_)] == run_ and len(w) > len(run_)}
+            two = two or len({x.name for x in after}) != len(after)
+        if two:
+            same(model.ambiguous(), True)
+        elif all(isinstance(x, Name) or not isinstance(x, (Star, Plus)) for x in walk(tree)):
+            same(model.ambiguous(), False)      # all words were spelled out
+        plain = {tuple(x.name for x in w) for w in words}
+        file = file_of([3, 0, 2, len(symbols)] + symbols + [0, 0, 0, 0, 0])
+        number, table = translate(file, [0] * TABLE)
+        same(number, 3 if model.ambiguous() else 0)
+        for length in range(5):
+            for word in itertools.product(range(3), repeat=length):
+                same(model.describes(word), word in plain)
+                if number == 0:
+                    same(rules_of(table).elements[0].model.describes(word), word in plain)
+        if number == 0:
+            same(proper(table), True)
+    print('self test: %d comparisons, all equal' % done[0])
+
+
+def walk(tree):
+    yield tree
+    for part in ('left', 'right', 'part'):
+        if hasattr(tree, part):
+            yield from walk(getattr(tree, part))
+
+
+if __name__ == '__main__':
+    self_test()
