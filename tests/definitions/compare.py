@@ -170,7 +170,7 @@ use mathlib.Core.Path.{_≡_, refl}
 use mathlib.Core.Bool.{Bool, true, false, not, _&&_}
 use mathlib.Core.Option.{none, some}
 use mathlib.Core.List.{List, [], _∷_, _++_}
-use Prim.Native.Nat.{ℕ, zero, suc}
+use Prim.Native.Nat.{ℕ, zero, suc, _/_, _%_}
 use lib.Dec.{eqb}
 use lib.IntN.{ℤ, pos, negsuc}
 use lib.ListN.{replicate}
@@ -196,7 +196,7 @@ class Term:
         self.number = number
         self.holds = holds
         self.weight = weight
-        self.probes = probes         # (label, number term, candidates) or (label, Boolean term, None)
+        self.probes = probes         # (label, number term, its most bits) or (label, Boolean term, None)
 
 
 class Case:
@@ -722,7 +722,7 @@ def read_case(file, buffer):
     number, count, after = ref.read(file, buffer)
     call = 'read %s %s' % (term(file), term(buffer))
     holds = 'counts (%s) %d %d %s' % (call, number, count, term(after))
-    probes = [('number', '(%s) .number' % call, range(14)), ('count', '(%s) .count' % call, range(min(300, len(buffer) + 2))),
+    probes = [('number', '(%s) .number' % call, 4), ('count', '(%s) .count' % call, 14),
               ('buffer as expected', 'same ((%s) .buffer) %s' % (call, term(after)), None)]
     return Case([Term('read', number, holds, len(file) + len(buffer), probes)],
                 told(call='read', file=file, buffer=buffer, expected=(number, count, after)))
@@ -732,7 +732,7 @@ def write_case(tokens, buffer):
     number, count, after = ref.write(tokens, buffer)
     call = 'write %s %s' % (term(tokens), term(buffer))
     holds = 'counts (%s) %d %d %s' % (call, number, count, term(after))
-    probes = [('number', '(%s) .number' % call, range(14)), ('count', '(%s) .count' % call, range(min(300, len(buffer) + 2))),
+    probes = [('number', '(%s) .number' % call, 4), ('count', '(%s) .count' % call, 14),
               ('buffer as expected', 'same ((%s) .buffer) %s' % (call, term(after)), None)]
     return Case([Term('write', number, holds, len(tokens) + len(buffer), probes)],
                 told(call='write', tokens=tokens, buffer=buffer, expected=(number, count, after)))
@@ -742,13 +742,13 @@ def translate_case(file, table):
     number, after = ref.translate(file, table)
     call = 'translate %s %s' % (term(file), term(table))
     holds = 'tables (%s) %d %s' % (call, number, term(after))
-    probes = [('number', '(%s) .0' % call, range(14)),
+    probes = [('number', '(%s) .0' % call, 4),
               ('table as expected', 'same ((%s) .1) %s' % (call, term(after)), None)]
     weight = 8 * len(file) if number in (0, 3) else len(file)
     terms = [Term('translate', number, holds, weight, probes)]
     if len(table) == TABLE:
         call = 'refusalOf (schemaOf %s)' % term(file)
-        terms.append(Term('schemaOf', number, 'eqb (%s) %d' % (call, number), weight, [('number', call, range(14))]))
+        terms.append(Term('schemaOf', number, 'eqb (%s) %d' % (call, number), weight, [('number', call, 4)]))
     return Case(terms, told(call='translate', file=file, table_length=len(table), expected=number))
 
 
@@ -767,8 +767,8 @@ def check_case(context, buffer, used):
 
     def add(name, call):
         terms.append(Term(name, number, 'answers (%s) %d %d' % (call, number, place), len(buffer),
-                          [('number', '(%s) .0' % call, range(14)),
-                           ('place', '(%s) .1' % call, range(min(300, len(buffer) + 1)))]))
+                          [('number', '(%s) .0' % call, 4),
+                           ('place', '(%s) .1' % call, 14)]))
 
     add('check, own table' if own and context.good else 'check', 'check table %s %d' % (term(buffer), used))
     if not own:
@@ -786,9 +786,9 @@ def edit_case(context, buffer, used, operation, place, piece):
     wanted = '%d %d %d %s %s' % (number, where, length, signed(change), term(after))
 
     def add(name, call):
-        probes = [('number', '(%s) .number' % call, range(14)),
-                  ('place', '(%s) .place' % call, range(min(300, len(buffer) + len(piece) + 1))),
-                  ('used', '(%s) .used' % call, range(min(300, len(buffer) + len(piece) + 1))),
+        probes = [('number', '(%s) .number' % call, 4),
+                  ('place', '(%s) .place' % call, 14),
+                  ('used', '(%s) .used' % call, 14),
                   ('change as expected', 'sameChange ((%s) .change) %s' % (call, signed(change)), None),
                   ('buffer as expected', 'same ((%s) .buffer) %s' % (call, term(after)), None)]
         terms.append(Term(name, number, 'results (%s) %s' % (call, wanted), len(buffer) + len(piece), probes))
@@ -1317,20 +1317,26 @@ def locate(scratch, failed):
             parts.append((label, [part.holds]))
             by_name[equation.module, label] = (equation, case, part)
     bad = [by_name[name] for name in sorted(scratch.check(modules))]
+    modules = {}
+    for k, (equation, _, part) in enumerate(bad[:20]):
+        parts = []
+        for at, (_, text, bits) in enumerate(part.probes):
+            name = 'p%d' % at
+            if bits is None:
+                parts.append((name, [text]))
+            for bit in range(bits or 0):
+                parts.append(('%sb%d' % (name, bit), ['eqb ((%s) / %d %% 2) 1' % (text, 2 ** bit)]))
+        modules['P%03d' % k] = (equation.context, parts)
+    wrong = scratch.check(modules)
     lines = []
-    for equation, case, part in bad[:20]:
+    for k, (equation, case, part) in enumerate(bad[:20]):
         answers = []
-        for label, text, candidates in part.probes:
-            if candidates is None:
-                parts = [('p0', [text])]
+        for at, (label, text, bits) in enumerate(part.probes):
+            if bits is None:
+                answers.append('%s: %s' % (label, 'no' if ('P%03d' % k, 'p%d' % at) in wrong else 'yes'))
             else:
-                parts = [('p%d' % k, ['eqb (%s) %d' % (text, k)]) for k in candidates]
-            wrong = {name for _, name in scratch.check({'P': (equation.context, parts)})}
-            right = [name[1:] for name, _ in parts if name not in wrong]
-            if candidates is None:
-                answers.append('%s: %s' % (label, 'yes' if right else 'no'))
-            else:
-                answers.append('%s %s' % (label, right[0] if right else 'none of those tried'))
+                answers.append('%s %d' % (label, sum(2 ** bit for bit in range(bits)
+                                                     if ('P%03d' % k, 'p%db%d' % (at, bit)) not in wrong)))
         lines.append('%s, expected %s' % (part.call, part.number))
         if equation.context is not None:
             lines.append('    schema file: %s' % equation.context.file)

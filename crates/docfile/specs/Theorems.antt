@@ -1,5 +1,5 @@
--- What the calls of document files promise, of any outcomes that their contracts allow. Assumes nothing.
-use mathlib.Core.Path.{_≡_, refl, sym, ap, _∙_}
+-- What the calls of document files promise, of any outcomes o that their contracts allow: o ≡ read .., o ≡ write .. Assumes nothing.
+use mathlib.Core.Path.{_≡_, refl, ap, _∙_}
 use mathlib.Core.Bool.{true}
 use mathlib.Core.List.{List}
 use Prim.Native.Nat.{ℕ, _≤_}
@@ -9,48 +9,18 @@ use Rattle.paper.specs.Files.{fileOf, Result, refused, made, Counted, counted, 
 use Rattle.numbers.specs.Laws.{bytes}
 use Rattle.docfile.specs.Done.{content, ReadDone, read-done, file-back, reads, WriteDone, write-done, same-tokens, writes}
 
--- ---- the contracts
-
--- what `read` and `write` ensure of their outcome: number, count and every place of the buffer as they return
-abbrev pub ReadContract : (file buffer : List ℕ) → Counted → Type 0
-ReadContract file buffer o = o ≡ read file buffer
-
-abbrev pub WriteContract : (tokens buffer : List ℕ) → Counted → Type 0
-WriteContract tokens buffer o = o ≡ write tokens buffer
-
 -- ---- each call
-
--- Two outcomes that the contract allows for one input are equal.
-pub read-determined : (file buffer : List ℕ) (o p : Counted) → ReadContract file buffer o → ReadContract file buffer p → o ≡ p
-read-determined file buffer o p e f = e ∙ sym f
-
-pub write-determined : (tokens buffer : List ℕ) (o p : Counted) → WriteContract tokens buffer o → WriteContract tokens buffer p → o ≡ p
-write-determined tokens buffer o p e f = e ∙ sym f
-
--- what both calls do to the buffer
-left : (r : Result) (buffer : List ℕ) → (counted r buffer .number ≡ 0 → ⊥) → (counted r buffer .count ≡ 0) × (counted r buffer .buffer ≡ buffer)
-left (refused k) buffer n = (refl, refl)
-left (made l) buffer n = absurd (n refl)
 
 kept : (r : Result) (buffer : List ℕ) → drop (counted r buffer .count) (counted r buffer .buffer) ≡ drop (counted r buffer .count) buffer
 kept (refused k) buffer = refl
 kept (made l) buffer = drop-append-seam l (drop (length l) buffer)
 
--- A refused call counts 0 and leaves the buffer as it was.
-pub read-refused : (file buffer : List ℕ) (o : Counted) → ReadContract file buffer o → (o .number ≡ 0 → ⊥) → (o .count ≡ 0) × (o .buffer ≡ buffer)
-unfolding read
-read-refused file buffer o e n = rw e (left (reading file buffer) buffer (rw e at n))
-
-pub write-refused : (tokens buffer : List ℕ) (o : Counted) → WriteContract tokens buffer o → (o .number ≡ 0 → ⊥) → (o .count ≡ 0) × (o .buffer ≡ buffer)
-unfolding write
-write-refused tokens buffer o e n = rw e (left (writing tokens buffer) buffer (rw e at n))
-
 -- The places of the buffer from the count on keep their contents.
-pub read-keeps : (file buffer : List ℕ) (o : Counted) → ReadContract file buffer o → drop (o .count) (o .buffer) ≡ drop (o .count) buffer
+pub read-keeps : (file buffer : List ℕ) (o : Counted) → o ≡ read file buffer → drop (o .count) (o .buffer) ≡ drop (o .count) buffer
 unfolding read
 read-keeps file buffer o e = rw e (kept (reading file buffer) buffer)
 
-pub write-keeps : (tokens buffer : List ℕ) (o : Counted) → WriteContract tokens buffer o → drop (o .count) (o .buffer) ≡ drop (o .count) buffer
+pub write-keeps : (tokens buffer : List ℕ) (o : Counted) → o ≡ write tokens buffer → drop (o .count) (o .buffer) ≡ drop (o .count) buffer
 unfolding write
 write-keeps tokens buffer o e = rw e (kept (writing tokens buffer) buffer)
 
@@ -58,8 +28,8 @@ write-keeps tokens buffer o e = rw e (kept (writing tokens buffer) buffer)
 
 -- Reading a file and writing the tokens read: where both calls are done, the bytes written are those of the file, and as many.
 pub read-write : (file places room : List ℕ) (o w : Counted) → bytes file ≡ true
-    → ReadContract file places o → o .number ≡ 0
-    → WriteContract (content o) room w → w .number ≡ 0
+    → o ≡ read file places → o .number ≡ 0
+    → w ≡ write (content o) room → w .number ≡ 0
     → (content w ≡ file) × (w .count ≡ length file)
 read-write file places room o w h r z c y =
     let e : WriteDone (content o) w = write-done (content o) room c y in
@@ -68,8 +38,8 @@ read-write file places room o w h r z c y =
 
 -- Writing tokens and reading the bytes written: where both calls are done, the tokens read are those written, and as many.
 pub write-read : (tokens room places : List ℕ) (w o : Counted)
-    → WriteContract tokens room w → w .number ≡ 0
-    → ReadContract (content w) places o → o .number ≡ 0
+    → w ≡ write tokens room → w .number ≡ 0
+    → o ≡ read (content w) places → o .number ≡ 0
     → (content o ≡ tokens) × (o .count ≡ length tokens)
 write-read tokens room places w o c y r z =
     let d : ReadDone (content w) o = read-done (content w) places r z in
@@ -78,11 +48,11 @@ write-read tokens room places w o c y r z =
 
 -- After a call that is done, the call back is done where it has room: for the bytes of the file, for the tokens.
 pub read-write-done : (file places room : List ℕ) (o w : Counted) → bytes file ≡ true
-    → ReadContract file places o → o .number ≡ 0
-    → WriteContract (content o) room w → length file ≤ length room → w .number ≡ 0
+    → o ≡ read file places → o .number ≡ 0
+    → w ≡ write (content o) room → length file ≤ length room → w .number ≡ 0
 read-write-done file places room o w h r z c k = writes room h (read-done file places r z) c k
 
 pub write-read-done : (tokens room places : List ℕ) (w o : Counted)
-    → WriteContract tokens room w → w .number ≡ 0
-    → ReadContract (content w) places o → length tokens ≤ length places → o .number ≡ 0
+    → w ≡ write tokens room → w .number ≡ 0
+    → o ≡ read (content w) places → length tokens ≤ length places → o .number ≡ 0
 write-read-done tokens room places w o c y r k = reads places (write-done tokens room c y) r k

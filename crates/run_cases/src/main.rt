@@ -1,0 +1,211 @@
+// Runs the calls on cases from standard input and prints a line for each: the call, its answer, and a sum over every place of
+// the lent buffer after it. The tests compare the lines with what an independent program expects.
+//
+// A case is a byte for the call and then numbers of two bytes, low byte first:
+//   1 read    places of the buffer, what they hold, length of the file; the file's bytes
+//   2 write   bytes of the buffer, what they hold, count of tokens; the tokens, four bytes each
+// Any other byte, or a case that is cut short, ends the run.
+use libc::{STDIN_FILENO, STDOUT_FILENO};
+ghost use mathlib.Core.Path.{_≡_};
+ghost use Prim.Native.Nat.{_+_, _≤_, _<_};
+ghost use lib.ListN.{length};
+
+const MOST: usize = 262144;
+
+const PLACES: usize = 16384;
+
+// Room for the cases.
+fn cases() -> [u8; 262144]
+    ensures { λ r. ⌜ 262144 ≡ length r ⌝ }
+{
+    [0; 262144]
+}
+
+// Places for tokens, and for bytes, that all hold one number.
+fn places_of(held: u32) -> [u32; 16384]
+    ensures { λ r. ⌜ 16384 ≡ length r ⌝ }
+{
+    [held; 16384]
+}
+
+fn bytes_of(held: u8) -> [u8; 65536]
+    ensures { λ r. ⌜ 65536 ≡ length r ⌝ }
+{
+    [held; 65536]
+}
+
+fn wide(x: u8) -> usize
+    ensures { λ r. ⌜ r < 256 ⌝ }
+{
+    x as usize
+}
+
+fn wider(x: u32) -> u64
+    ensures { λ r. ⌜ r < 4294967296 ⌝ }
+{
+    x as u64
+}
+
+// The byte at a place; 0 past the end.
+fn byte(s: &[u8], at: usize) -> usize
+    ensures { λ r. ⌜ r < 256 ⌝ }
+{
+    if at < s.len() {
+        return wide(s[at]);
+    }
+    0
+}
+
+// The number of two bytes at a place.
+fn pair(s: &[u8], at: usize) -> usize
+    requires { ⌜ at < 1000002 ⌝ }
+    ensures { λ r. ⌜ r < 65536 ⌝ }
+{
+    byte(s, at) + 256 * byte(s, at + 1)
+}
+
+// The token of four bytes at a place.
+fn token(s: &[u8], at: usize) -> u32
+    requires { ⌜ at < 1000000 ⌝ }
+{
+    (pair(s, at) + 65536 * pair(s, at + 2)) as u32
+}
+
+// A sum over the numbers that tells their places apart.
+fn mixed(sum: u64, x: u64) -> u64
+    requires { ⌜ (sum < 4294967291) × (x < 4294967296) ⌝ }
+    ensures { λ r. ⌜ r < 4294967291 ⌝ }
+{
+    (sum * 65599 + x + 1) % 4294967291
+}
+
+fn sum_of_tokens(buffer: &[u32]) -> u64 {
+    let mut sum: u64 = 0;
+    let mut i: usize = 0;
+    while i < buffer.len() {
+        sum = mixed(sum, wider(buffer[i]));
+        i += 1;
+    }
+    sum
+}
+
+fn sum_of_bytes(buffer: &[u8]) -> u64 {
+    let mut sum: u64 = 0;
+    let mut i: usize = 0;
+    while i < buffer.len() {
+        sum = mixed(sum, wide(buffer[i]) as u64);
+        i += 1;
+    }
+    sum
+}
+
+fn say(call: &[u8], c: docfile::Count, sum: u64) {
+    io::write_all(STDOUT_FILENO, call);
+    io::write_all(STDOUT_FILENO, b" ");
+    io::print_decimal(STDOUT_FILENO, c.number as u64);
+    io::write_all(STDOUT_FILENO, b" ");
+    io::print_decimal(STDOUT_FILENO, c.count as u64);
+    io::write_all(STDOUT_FILENO, b" ");
+    io::print_decimal(STDOUT_FILENO, sum);
+    io::write_all(STDOUT_FILENO, b"\n");
+}
+
+// Reads the file into the buffer, and says what came of it.
+fn show_read(file: &[u8], buffer: &mut [u32]) {
+    let c = docfile::read(file, buffer);
+    say(b"read", c, sum_of_tokens(buffer));
+}
+
+// A case of `read` whose numbers begin at a place; the place after the case.
+fn read_case(s: &[u8], at: usize) -> usize
+    requires { ⌜ (at ≤ length (now s)) × (length (now s) ≤ 262144) ⌝ }
+    ensures { λ r. ⌜ at ≤ r ⌝ }
+{
+    let places = pair(s, at);
+    let held = pair(s, at + 2) as u32;
+    let end = at + 6 + pair(s, at + 4);
+    if places > PLACES {
+        return s.len();
+    }
+    if end > s.len() {
+        return s.len();
+    }
+    let mut buffer = places_of(held);
+    let from = at + 6;
+    show_read(&s[from..end], &mut buffer[..places]);
+    end
+}
+
+// The tokens at a place go into the buffer.
+fn load(s: &[u8], at: usize, tokens: &mut [u32], n: usize)
+    requires { ⌜ (at ≤ 262144) × (n ≤ length (now tokens)) × (n ≤ 16384) ⌝ }
+    ensures { λ _. ⌜ length (now (tokens .exit)) ≡ length (now (tokens .entry)) ⌝ }
+{
+    let mut i: usize = 0;
+    while i < n {
+        tokens[i] = token(s, at + 4 * i);
+        i += 1;
+    }
+}
+
+// Writes the tokens at a place into the buffer, and says what came of it.
+fn show_write(s: &[u8], at: usize, count: usize, tokens: &mut [u32], buffer: &mut [u8])
+    requires { ⌜ (at ≤ 262144) × (count ≤ length (now tokens)) × (count ≤ 16384) ⌝ }
+{
+    load(s, at, tokens, count);
+    let c = docfile::write(&tokens[..count], buffer);
+    say(b"write", c, sum_of_bytes(buffer));
+}
+
+// A case of `write` whose numbers begin at a place; the place after the case.
+fn write_case(s: &[u8], at: usize) -> usize
+    requires { ⌜ (at ≤ length (now s)) × (length (now s) ≤ 262144) ⌝ }
+    ensures { λ r. ⌜ at ≤ r ⌝ }
+{
+    let room = pair(s, at);
+    let held = byte(s, at + 2) as u8;
+    let count = pair(s, at + 4);
+    let end = at + 6 + 4 * count;
+    if count > PLACES {
+        return s.len();
+    }
+    if end > s.len() {
+        return s.len();
+    }
+    let mut tokens = places_of(0);
+    let mut buffer = bytes_of(held);
+    let from = at + 6;
+    show_write(s, from, count, &mut tokens, &mut buffer[..room]);
+    end
+}
+
+// One case; the place after it, or the end.
+fn one_case(s: &[u8], at: usize) -> usize
+    requires { ⌜ (at < length (now s)) × (length (now s) ≤ 262144) ⌝ }
+    ensures { λ r. ⌜ at < r ⌝ }
+{
+    let call = s[at];
+    if call == 1 {
+        return read_case(s, at + 1);
+    }
+    if call == 2 {
+        return write_case(s, at + 1);
+    }
+    s.len()
+}
+
+fn run(s: &[u8]) {
+    if s.len() > MOST {
+        return;
+    }
+    let mut at: usize = 0;
+    while at < s.len() {
+        at = one_case(s, at);
+    }
+}
+
+fn main() {
+    let mut input = cases();
+    let n = io::read_full(STDIN_FILENO, &mut input);
+    run(&input[..n]);
+}
