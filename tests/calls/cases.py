@@ -3,8 +3,8 @@
 
     python3 cases.py SEED COUNT STDIN STDOUT
 
-Writes COUNT random cases, after the paper's own examples, to STDIN, and to
-STDOUT the lines that the independent program tests/definitions/reference.py
+Writes the paper's own examples and the limits, and random cases until there
+are COUNT or more, to STDIN, and to STDOUT the lines that the independent program tests/definitions/reference.py
 expects. Exit status 1 if an answer that a call can give does not occur.
 """
 
@@ -14,10 +14,14 @@ import random
 import sys
 
 sys.path.insert(0, os.path.join(os.path.dirname(os.path.abspath(__file__)), '..', 'definitions'))
+import compare  # noqa: E402
 import reference  # noqa: E402
 
 MOST = 262144            # bytes that run_cases takes
-ANSWERS = {'read': {0, 1, 5}, 'write': {0, 4, 5}}
+WORDS = 6700             # words of its table
+TABLE = 6626             # words that a table has
+ANSWERS = {'read': {0, 1, 5}, 'write': {0, 4, 5}, 'translate': {0, 1, 2, 3, 13},
+           'check': {0, 4, 8, 9, 10, 11, 12, 13}}
 
 
 def pair(n):
@@ -65,7 +69,6 @@ def paper():
     yield read_case([5] * 8192, 8192, 3)
     yield read_case([5] * 8193, 8193, 3)
     yield read_case([5] * 8192 + [128], 8193, 3)
-    yield read_case([5] * 8192 + [128, 0], 16384, 3)
     yield write_case([127] * 8192, 8192, 3)
     yield write_case([2097152] + [127] * 8192, 9000, 3)
 
@@ -104,18 +107,107 @@ def one(rng):
     return read_case(file, max(0, n + rng.choice((-1, 0, 0, 1, 5, rng.randrange(40)))), rng.randrange(65536))
 
 
+class Core:
+    """The table that run_cases keeps, and the cases that go by it."""
+
+    def __init__(self, rng):
+        self.rng = rng
+        self.make = compare.Maker(rng.randrange(1 << 30))
+        self.table = [0] * WORDS
+        self.context = None
+
+    def translate(self, file, words=TABLE, held=9):
+        number, after = reference.translate(list(file), [held] * words)
+        self.table[:words] = after
+        halves = [h for w in after for h in (w % (1 << 32), w >> 32)]
+        line = 'translate %d 0 %d' % (number, total(halves))
+        return b'\x03' + pair(words) + pair(held) + pair(len(file)) + bytes(file), line, ('translate', number)
+
+    def word(self, place, value):
+        self.table[place] = value
+        return b'\x06' + pair(place) + value.to_bytes(8, 'little'), None, None
+
+    def check(self, buffer, used, words=TABLE):
+        tokens = [t % (1 << 32) for t in buffer]
+        number, place = reference.check(self.table[:words], tokens, used)
+        line = 'check %d %d 0' % (number, place)
+        cells = b''.join(t.to_bytes(4, 'little') for t in tokens)
+        return b'\x04' + pair(words) + used.to_bytes(8, 'little') + pair(len(tokens)) + cells, line, ('check', number)
+
+    def document(self):
+        """A document for the table, sound, with some faults, or with tokens changed."""
+        root = self.make.document(self.context)
+        for _ in range(self.rng.choice((0, 0, 1, 1, 2))):
+            root = self.make.change_tree(self.context, root)
+        tokens = reference.lay(root)
+        if self.rng.randrange(12) == 0:
+            tokens = self.make.change_tokens(tokens)
+        return self.make.buffer(tokens[:2000])
+
+    def schema(self, large=False):
+        """A schema that is taken, then documents, then the same by changed tables."""
+        rng = self.rng
+        how = dict(count=rng.randrange(9, 49), names=rng.choice((20, 40, 60))) if large else {}
+        file = reference.file_of(self.make.context(**how))
+        yield self.translate(file, held=rng.randrange(65536))
+        self.context = compare.Context(file, self.table[:TABLE])
+        for _ in range(rng.randrange(3, 9)):
+            yield self.check(*self.document())
+        yield self.check(*self.document(), words=rng.choice((0, 1, TABLE - 1, TABLE + 1)))
+        for _ in range(3):
+            changed = self.make.own_table(self.context, rng.randrange(3) > 0)
+            if changed is None or len(changed) != TABLE:
+                continue
+            for place, value in enumerate(changed):
+                if value != self.table[place] and value < 1 << 64:
+                    yield self.word(place, value)
+            yield self.check(*self.document())
+            yield self.check(*self.document())
+
+    def refused(self):
+        for wanted in (1, 2, 2, 3):
+            yield self.translate(self.make.schema_file(wanted), held=self.rng.randrange(65536))
+        yield self.translate(self.make.schema_file(0), words=self.rng.choice((0, TABLE - 1, TABLE + 1)))
+
+    def limits(self):
+        """The small shade; 64 names and 65; 8,192 tokens and 8,193; 64 deep and 65."""
+        shade = [4, 0, 2, 5, 0, 4, 6, 3, 8, 1, 0, 0, 0, 2, 2, 3, 7, 1, 1, 1, 0, 1, 0, 0, 1, 2, 2, 0]
+        yield self.translate(reference.file_of(shade))
+        yield self.check([1, 4, 61, 9, 12, 165, 17, 243, 2, 2, 25, 20, 165, 2, 2, 7, 7], 15)
+        twice = [1, 4, 61, 9, 12, 165, 2, 9, 12, 165, 2, 25, 20, 165, 2, 2]
+        yield self.check(twice, 16)
+        yield self.check(twice[:9] + [173] + twice[10:], 16)
+        for names in (64, 65):
+            symbols = [0, 6] * (names - 1) + [6]
+            yield self.translate(reference.file_of([2, 0, 2, len(symbols)] + symbols + [0, 0, 0]))
+        row = [3, 5]                                     # element 0 any number of times
+        yield self.translate(reference.file_of([1, 0, 2, 2] + row + [0]))
+        for deep in (64, 65):
+            yield self.check([1] * deep + [2] * deep + [0], 2 * deep)
+        flat = [1] + [1, 2] * 4095 + [2]
+        yield self.check(flat, 8192)
+        yield self.check(flat + [2], 8193)
+        for used in (0, 1, 3, 5, (1 << 32) + 4, (1 << 64) - 1):
+            yield self.check([1, 1, 2, 2], used)
+
+
 def main():
     seed, count, stdin, stdout = int(sys.argv[1]), int(sys.argv[2]), sys.argv[3], sys.argv[4]
     rng = random.Random(seed)
-    cases = list(paper()) + [one(rng) for _ in range(count)]
+    core = Core(rng)
+    cases = list(paper()) + list(core.limits())
+    while len(cases) < count:
+        cases += [one(rng) for _ in range(12)]
+        cases += list(core.schema(large=rng.randrange(20) == 0)) + list(core.refused())
     data, lines, seen = b'', [], collections.Counter()
     for case, line, answer in cases:
         if len(data) + len(case) > MOST:
             print('cases: no room after %d cases' % len(lines))
             return 1
         data += case
-        lines.append(line)
-        seen[answer] += 1
+        if line:
+            lines.append(line)
+            seen[answer] += 1
     with open(stdin, 'wb') as f:
         f.write(data)
     with open(stdout, 'w') as f:

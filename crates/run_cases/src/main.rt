@@ -2,9 +2,12 @@
 // the lent buffer after it. The tests compare the lines with what an independent program expects.
 //
 // A case is a byte for the call and then numbers of two bytes, low byte first:
-//   1 read    places of the buffer, what they hold, length of the file; the file's bytes
-//   2 write   bytes of the buffer, what they hold, count of tokens; the tokens, four bytes each
-// Any other byte, or a case that is cut short, ends the run.
+//   1 read       places of the buffer, what they hold, length of the file; the file's bytes
+//   2 write      bytes of the buffer, what they hold, count of tokens; the tokens, four bytes each
+//   3 translate  words of the table, what they hold, length of the file; the file's bytes
+//   4 check      words of the table, used length (eight bytes), places of the buffer; what they hold, four bytes each
+//   6 a word     its place in the table, and its number (eight bytes)
+// The table that a translation leaves, with the words put in by 6, is the one of the checks after it. Any other byte, or a case that is cut short, ends the run.
 use libc::{STDIN_FILENO, STDOUT_FILENO};
 ghost use mathlib.Core.Path.{_≡_};
 ghost use Prim.Native.Nat.{_+_, _≤_, _<_};
@@ -71,6 +74,13 @@ fn token(s: &[u8], at: usize) -> u32
     (pair(s, at) + 65536 * pair(s, at + 2)) as u32
 }
 
+// The number of eight bytes at a place.
+fn long(s: &[u8], at: usize) -> u64
+    requires { ⌜ at < 900000 ⌝ }
+{
+    wider(token(s, at)) + 4294967296 * wider(token(s, at + 4))
+}
+
 // A sum over the numbers that tells their places apart.
 fn mixed(sum: u64, x: u64) -> u64
     requires { ⌜ (sum < 4294967291) × (x < 4294967296) ⌝ }
@@ -99,12 +109,35 @@ fn sum_of_bytes(buffer: &[u8]) -> u64 {
     sum
 }
 
-fn say(call: &[u8], c: docfile::Count, sum: u64) {
+// The low and the high half of a word.
+fn low(x: u64) -> u64
+    ensures { λ r. ⌜ r < 4294967296 ⌝ }
+{
+    x % 4294967296
+}
+
+fn high(x: u64) -> u64
+    ensures { λ r. ⌜ r < 4294967296 ⌝ }
+{
+    x / 4294967296
+}
+
+fn sum_of_words(table: &[u64]) -> u64 {
+    let mut sum: u64 = 0;
+    let mut i: usize = 0;
+    while i < table.len() {
+        sum = mixed(mixed(sum, low(table[i])), high(table[i]));
+        i += 1;
+    }
+    sum
+}
+
+fn say(call: &[u8], number: u32, count: u32, sum: u64) {
     io::write_all(STDOUT_FILENO, call);
     io::write_all(STDOUT_FILENO, b" ");
-    io::print_decimal(STDOUT_FILENO, c.number as u64);
+    io::print_decimal(STDOUT_FILENO, number as u64);
     io::write_all(STDOUT_FILENO, b" ");
-    io::print_decimal(STDOUT_FILENO, c.count as u64);
+    io::print_decimal(STDOUT_FILENO, count as u64);
     io::write_all(STDOUT_FILENO, b" ");
     io::print_decimal(STDOUT_FILENO, sum);
     io::write_all(STDOUT_FILENO, b"\n");
@@ -113,7 +146,7 @@ fn say(call: &[u8], c: docfile::Count, sum: u64) {
 // Reads the file into the buffer, and says what came of it.
 fn show_read(file: &[u8], buffer: &mut [u32]) {
     let c = docfile::read(file, buffer);
-    say(b"read", c, sum_of_tokens(buffer));
+    say(b"read", c.number, c.count, sum_of_tokens(buffer));
 }
 
 // A case of `read` whose numbers begin at a place; the place after the case.
@@ -154,7 +187,7 @@ fn show_write(s: &[u8], at: usize, count: usize, tokens: &mut [u32], buffer: &mu
 {
     load(s, at, tokens, count);
     let c = docfile::write(&tokens[..count], buffer);
-    say(b"write", c, sum_of_bytes(buffer));
+    say(b"write", c.number, c.count, sum_of_bytes(buffer));
 }
 
 // A case of `write` whose numbers begin at a place; the place after the case.
@@ -179,10 +212,96 @@ fn write_case(s: &[u8], at: usize) -> usize
     end
 }
 
+// Every word is made one number.
+fn fill(table: &mut [u64], held: u64)
+    ensures { λ _. ⌜ length (now (table .exit)) ≡ length (now (table .entry)) ⌝ }
+{
+    let n = table.len();
+    let mut i: usize = 0;
+    while i < n {
+        table[i] = held;
+        i += 1;
+    }
+}
+
+// Translates the file to the table, and says what came of it.
+fn show_translate(file: &[u8], table: &mut [u64], held: u64)
+    ensures { λ _. ⌜ length (now (table .exit)) ≡ length (now (table .entry)) ⌝ }
+{
+    fill(table, held);
+    let number = schema::translate(file, table);
+    say(b"translate", number, 0, sum_of_words(table));
+}
+
+// A case of `translate` whose numbers begin at a place; the place after the case.
+fn translate_case(s: &[u8], at: usize, table: &mut [u64]) -> usize
+    requires { ⌜ (at ≤ length (now s)) × (length (now s) ≤ 262144) ⌝ }
+    ensures { λ r. ⌜ (at ≤ r) × (length (now (table .exit)) ≡ length (now (table .entry))) ⌝ }
+{
+    let words = pair(s, at);
+    let held = pair(s, at + 2) as u64;
+    let end = at + 6 + pair(s, at + 4);
+    if words > table.len() {
+        return s.len();
+    }
+    if end > s.len() {
+        return s.len();
+    }
+    let from = at + 6;
+    show_translate(&s[from..end], &mut table[..words], held);
+    end
+}
+
+// Checks the tokens at a place by the table, and says what came of it.
+fn show_check(table: &[u64], s: &[u8], at: usize, used: usize, count: usize, tokens: &mut [u32])
+    requires { ⌜ (at ≤ 262144) × (count ≤ length (now tokens)) × (count ≤ 16384) ⌝ }
+{
+    load(s, at, tokens, count);
+    let v = judge::check(table, &tokens[..count], used);
+    say(b"check", v.number, v.place, 0);
+}
+
+// A case of `check` whose numbers begin at a place; the place after the case.
+fn check_case(s: &[u8], at: usize, table: &[u64]) -> usize
+    requires { ⌜ (at ≤ length (now s)) × (length (now s) ≤ 262144) ⌝ }
+    ensures { λ r. ⌜ at ≤ r ⌝ }
+{
+    let words = pair(s, at);
+    let used = long(s, at + 2) as usize;
+    let count = pair(s, at + 10);
+    let end = at + 12 + 4 * count;
+    if words > table.len() {
+        return s.len();
+    }
+    if count > PLACES {
+        return s.len();
+    }
+    if end > s.len() {
+        return s.len();
+    }
+    let mut tokens = places_of(0);
+    let from = at + 12;
+    show_check(&table[..words], s, from, used, count, &mut tokens);
+    end
+}
+
+// A word that goes into the table; the place after the case.
+fn word_case(s: &[u8], at: usize, table: &mut [u64]) -> usize
+    requires { ⌜ (at ≤ length (now s)) × (length (now s) ≤ 262144) ⌝ }
+    ensures { λ r. ⌜ (at ≤ r) × (length (now (table .exit)) ≡ length (now (table .entry))) ⌝ }
+{
+    let i = pair(s, at);
+    if i >= table.len() {
+        return s.len();
+    }
+    table[i] = long(s, at + 2);
+    at + 10
+}
+
 // One case; the place after it, or the end.
-fn one_case(s: &[u8], at: usize) -> usize
+fn one_case(s: &[u8], at: usize, table: &mut [u64]) -> usize
     requires { ⌜ (at < length (now s)) × (length (now s) ≤ 262144) ⌝ }
-    ensures { λ r. ⌜ at < r ⌝ }
+    ensures { λ r. ⌜ (at < r) × (length (now (table .exit)) ≡ length (now (table .entry))) ⌝ }
 {
     let call = s[at];
     if call == 1 {
@@ -191,21 +310,38 @@ fn one_case(s: &[u8], at: usize) -> usize
     if call == 2 {
         return write_case(s, at + 1);
     }
+    if call == 3 {
+        return translate_case(s, at + 1, table);
+    }
+    if call == 4 {
+        return check_case(s, at + 1, table);
+    }
+    if call == 6 {
+        return word_case(s, at + 1, table);
+    }
     s.len()
 }
 
-fn run(s: &[u8]) {
+// Room for a table, and for lengths that no table has.
+fn words() -> [u64; 6700]
+    ensures { λ r. ⌜ 6700 ≡ length r ⌝ }
+{
+    [0; 6700]
+}
+
+fn run(s: &[u8], table: &mut [u64]) {
     if s.len() > MOST {
         return;
     }
     let mut at: usize = 0;
     while at < s.len() {
-        at = one_case(s, at);
+        at = one_case(s, at, table);
     }
 }
 
 fn main() {
     let mut input = cases();
     let n = io::read_full(STDIN_FILENO, &mut input);
-    run(&input[..n]);
+    let mut table = words();
+    run(&input[..n], &mut table);
 }

@@ -1,0 +1,4 @@
+-- Laws that the proofs share.
+pub mod Got
+pub mod Modelled
+pub mod Sharing

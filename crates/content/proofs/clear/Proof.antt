@@ -1,0 +1,78 @@
+-- `clear` meets its contract. The loop: the answer is that of the follow sets from k on. Assumes nothing.
+use Prim.Native.Nat.{_-_}
+use borrow.Author.Needs.{needs}
+use Rattle.content.proofs.Sharing.{Clearing, names-differ, walk-small, first-clash, first-clear, next-clash, next-clear, all-clear}
+use Rattle.content.proofs.clear.Statement.{statement}
+use Rattle.content.proofs.clear.Tie as tie
+
+abbrev Inv-loop : tie.InvT-loop
+Inv-loop count first names follow twice shared k₀ k = Clearing count first names follow k
+
+abbrev μ-loop : tie.MeasureT-loop
+μ-loop count first names follow twice shared k₀ k = count - k
+
+repeated-requires : tie.Need-repeated-requires Inv-loop μ-loop
+repeated-requires c κs = search needs
+
+returns : tie.Need-returns Inv-loop μ-loop
+returns c = search names-differ
+
+places-of-requires : tie.Need-places-of-requires Inv-loop μ-loop
+places-of-requires c κs = search needs
+
+one-each-requires : tie.Need-one-each-requires Inv-loop μ-loop
+one-each-requires c κs = (search needs, search walk-small)
+
+returns-2 : tie.Need-returns-2 Inv-loop μ-loop
+returns-2 c = search first-clash
+
+loop-holds : tie.Need-loop-holds Inv-loop μ-loop
+loop-holds c = search first-clear
+
+mul-one-each : tie.Need-mul-one-each Inv-loop μ-loop
+mul-one-each c = search needs
+
+shared-slice-read-one-each : tie.Need-shared-slice-read-one-each Inv-loop μ-loop
+shared-slice-read-one-each c = search needs
+
+one-each-requires-2 : tie.Need-one-each-requires-2 Inv-loop μ-loop
+one-each-requires-2 c κs = (search needs, search walk-small)
+
+returns-3 : tie.Need-returns-3 Inv-loop μ-loop
+returns-3 c = search next-clash
+
+add-k : tie.Need-add-k Inv-loop μ-loop
+add-k c = search needs
+
+loop-less : tie.Need-loop-less Inv-loop μ-loop
+loop-less c = search needs
+
+loop-again : tie.Need-loop-again Inv-loop μ-loop
+loop-again c =
+    let calls = c .before .before .before .before .before .before .before in
+    next-clear (calls .before .before .before .before .before .pre) (calls .before .before .repeated .ensures) (calls .places-of .ensures) _ _ (c .before .before .before .before .loop .inv) (c .before .before .before .loop-test .taken)
+    (c .before .one-each2 .ensures) (c .if3 .left)
+
+returns-4 : tie.Need-returns-4 Inv-loop μ-loop
+returns-4 c = search all-clear
+
+pub clear-spec : {M : Type 1} → statement M
+clear-spec =
+    tie.close
+    (tie.spec
+    Inv-loop
+    μ-loop
+    repeated-requires
+    returns
+    places-of-requires
+    one-each-requires
+    returns-2
+    loop-holds
+    mul-one-each
+    shared-slice-read-one-each
+    one-each-requires-2
+    returns-3
+    add-k
+    loop-less
+    loop-again
+    returns-4)

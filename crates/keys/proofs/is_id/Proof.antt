@@ -1,0 +1,51 @@
+-- `keys::is_id` meets its contract. The loop's invariant is `Seeking`; the measure is how many keys are left. Assumes nothing.
+use Prim.Native.Nat.{_-_}
+use borrow.Author.Needs.{needs}
+use Rattle.keys.specs.Compare.{Seeking, seek-none, seek-end, seek-found, seek-more}
+use Rattle.keys.proofs.is_id.Statement.{statement}
+use Rattle.keys.proofs.is_id.Tie as tie
+
+abbrev Inv-loop : tie.InvT-loop
+Inv-loop ids n value i₀ i = Seeking ids n value i
+
+abbrev μ-loop : tie.MeasureT-loop
+μ-loop ids n value i₀ i = n - i
+
+loop-holds : tie.Need-loop-holds Inv-loop μ-loop
+loop-holds c = seek-none _ _ _
+
+mul-if1 : tie.Need-mul-if1 Inv-loop μ-loop
+mul-if1 c = search needs
+
+shared-slice-read-if1 : tie.Need-shared-slice-read-if1 Inv-loop μ-loop
+shared-slice-read-if1 c = search needs
+
+returns : tie.Need-returns Inv-loop μ-loop
+returns c = search seek-found
+
+add-i : tie.Need-add-i Inv-loop μ-loop
+add-i c = search needs
+
+loop-less : tie.Need-loop-less Inv-loop μ-loop
+loop-less c = search needs
+
+loop-again : tie.Need-loop-again Inv-loop μ-loop
+loop-again c = search seek-more
+
+returns-2 : tie.Need-returns-2 Inv-loop μ-loop
+returns-2 c = search seek-end
+
+pub is-id-spec : {M : Type 1} → statement M
+is-id-spec =
+    tie.close
+    (tie.spec
+    Inv-loop
+    μ-loop
+    loop-holds
+    mul-if1
+    shared-slice-read-if1
+    returns
+    add-i
+    loop-less
+    loop-again
+    returns-2)

@@ -1,0 +1,74 @@
+-- `schema::put_schema` meets its contract: one law for each way out. Assumes nothing.
+use borrow.Author.Needs.{needs}
+use Rattle.schema.specs.Whole.{schema-count, count-some, count-few, schema-root, root-within, head-put, head-first, head-second, head-kept, head-count, head-root, schema-elements, schema-leftover, schema-put}
+use Rattle.schema.proofs.put_schema.Statement.{statement}
+use Rattle.schema.proofs.put_schema.Tie as tie
+
+number-in-requires : tie.Need-number-in-requires
+number-in-requires c κs = search needs
+
+returns : tie.Need-returns
+returns c = search schema-count
+
+sub-number-in : tie.Need-sub-number-in
+sub-number-in c = search (count-some, needs)
+
+number-in-requires-2 : tie.Need-number-in-requires-2
+number-in-requires-2 c κs = search needs
+
+returns-2 : tie.Need-returns-2
+returns-2 c = search schema-root
+
+cast-table : tie.Need-cast-table
+cast-table c = search needs
+
+slice-write-table : tie.Need-slice-write-table
+slice-write-table c = search head-first
+
+cast-table-2 : tie.Need-cast-table-2
+cast-table-2 c = search needs
+
+slice-write-table-2 : tie.Need-slice-write-table-2
+slice-write-table-2 c = search head-second
+
+put-elements-requires : tie.Need-put-elements-requires
+put-elements-requires c κs = search (root-within, count-few, head-put)
+
+same-length : tie.Need-same-length
+same-length c = search head-kept
+
+returns-3 : tie.Need-returns-3
+returns-3 c = search schema-elements
+
+same-length-2 : tie.Need-same-length-2
+same-length-2 c = search head-kept
+
+returns-4 : tie.Need-returns-4
+returns-4 c = search schema-leftover
+
+same-length-3 : tie.Need-same-length-3
+same-length-3 c = search head-kept
+
+returns-5 : tie.Need-returns-5
+returns-5 c = search (schema-put, head-count, head-root)
+
+pub put-schema-spec : {M : Type 1} → statement M
+put-schema-spec =
+    tie.close
+    (tie.spec
+    number-in-requires
+    returns
+    sub-number-in
+    number-in-requires-2
+    returns-2
+    cast-table
+    slice-write-table
+    cast-table-2
+    slice-write-table-2
+    put-elements-requires
+    same-length
+    returns-3
+    same-length-2
+    returns-4
+    same-length-3
+    returns-5)

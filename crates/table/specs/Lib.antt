@@ -1,0 +1,9 @@
+-- The test of a table, part by part, and the run of a block's model.
+pub mod Rest
+pub mod Union
+pub mod Attributes
+pub mod Model
+pub mod Block
+pub mod Whole
+pub mod Run
+pub mod Step
