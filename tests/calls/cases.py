@@ -21,7 +21,7 @@ MOST = 262144            # bytes that run_cases takes
 WORDS = 6700             # words of its table
 TABLE = 6626             # words that a table has
 ANSWERS = {'read': {0, 1, 5}, 'write': {0, 4, 5}, 'translate': {0, 1, 2, 3, 13},
-           'check': {0, 4, 8, 9, 10, 11, 12, 13}}
+           'check': {0, 4, 8, 9, 10, 11, 12, 13}, 'edit': {0, 4, 5, 6, 7, 8, 9, 10, 11, 12, 13}}
 
 
 def pair(n):
@@ -134,6 +134,38 @@ class Core:
         cells = b''.join(t.to_bytes(4, 'little') for t in tokens)
         return b'\x04' + pair(words) + used.to_bytes(8, 'little') + pair(len(tokens)) + cells, line, ('check', number)
 
+    def edit(self, buffer, used, operation, place, piece, words=TABLE):
+        tokens, piece = [t % (1 << 32) for t in buffer], [t % (1 << 32) for t in piece]
+        operation, place = operation % (1 << 32), place % (1 << 64)
+        number, at, after, change, left = reference.edit(self.table[:words], tokens, used, operation, place, piece)
+        sign = 2 if change < 0 else 1 if change > 0 else 0
+        line = 'edit %d %d %d\nused 0 %d %d' % (number, at, total(left), sign, after)
+        cells = b''.join(t.to_bytes(4, 'little') for t in tokens + piece)
+        return (b'\x05' + pair(words) + used.to_bytes(8, 'little') + operation.to_bytes(4, 'little')
+                + place.to_bytes(8, 'little') + pair(len(tokens)) + pair(len(piece)) + cells, line, ('edit', number))
+
+    def edits(self):
+        """A run of edits, each on what the one before left; now and then by a document with faults."""
+        rng = self.rng
+        root = self.make.document(self.context)
+        for _ in range(rng.choice((0, 0, 0, 1, 2))):
+            root = self.make.change_tree(self.context, root)
+        tokens = reference.lay(root)[:2000]
+        buffer, used = tokens + [7] * rng.choice((0, 1, 4, 30)), len(tokens)
+        for _ in range(rng.randrange(1, 7)):
+            tree = reference.tree_of(buffer[:used])
+            if tree is None:
+                yield self.edit(buffer, used, rng.randrange(8), rng.randrange(4), [25, 2])
+                return
+            operation, place, piece = self.make.edit(self.context, tree, rng.choice((0, 1, 1, 1, 2, 3, 3, 4, 4, 5)))
+            if operation == 0 and rng.randrange(2):
+                operation = rng.choice((6, 7, 1 << 31))
+            if rng.randrange(30) == 0:
+                yield self.edit(buffer, used + rng.choice((1, 100, 1 << 40)), operation, place, piece)
+            yield self.edit(buffer, used, operation, place, piece)
+            got = reference.edit(self.table[:TABLE], buffer, used, operation, place, [t % (1 << 32) for t in piece])
+            used, buffer = got[2], got[4]
+
     def document(self):
         """A document for the table, sound, with some faults, or with tokens changed."""
         root = self.make.document(self.context)
@@ -153,7 +185,9 @@ class Core:
         self.context = compare.Context(file, self.table[:TABLE])
         for _ in range(rng.randrange(3, 9)):
             yield self.check(*self.document())
+            yield from self.edits()
         yield self.check(*self.document(), words=rng.choice((0, 1, TABLE - 1, TABLE + 1)))
+        yield self.edit([1, 2], 2, 1, 1, [3], words=rng.choice((0, 1, TABLE - 1, TABLE + 1)))
         for _ in range(3):
             changed = self.make.own_table(self.context, rng.randrange(3) > 0)
             if changed is None or len(changed) != TABLE:
@@ -174,6 +208,13 @@ class Core:
         shade = [4, 0, 2, 5, 0, 4, 6, 3, 8, 1, 0, 0, 0, 2, 2, 3, 7, 1, 1, 1, 0, 1, 0, 0, 1, 2, 2, 0]
         yield self.translate(reference.file_of(shade))
         yield self.check([1, 4, 61, 9, 12, 165, 17, 243, 2, 2, 25, 20, 165, 2, 2, 7, 7], 15)
+        small = [1, 4, 61, 9, 12, 165, 17, 243, 2, 2, 25, 20, 165, 2, 2, 7, 7, 7, 7, 7]
+        for line in ('2 3', '2 10', '2 7', '1 10 9 12 165 2', '1 10 9 12 173 2', '1 3 25 20 165 2', '1 10 25 20 165 2',
+                     '3 3 9 12 173 2', '5 3 12', '1 0 25 20 165 2', '1 1 25 20 165 2', '1 15 25 20 165 2',
+                     '1 14 25 20 165 2', '1 14 9 12 173 2', '3 0 3', '3 0 1 4 61 2', '4 0 4 69', '4 3 4 61', '5 0 4'):
+            operation, place, *piece = map(int, line.split())
+            yield self.edit(small, 15, operation, place, piece)
+        yield self.edit([1, 4, 61, 41, 2, 2, 9], 6, 1, 4, [3])     # under an undeclared element
         twice = [1, 4, 61, 9, 12, 165, 2, 9, 12, 165, 2, 25, 20, 165, 2, 2]
         yield self.check(twice, 16)
         yield self.check(twice[:9] + [173] + twice[10:], 16)

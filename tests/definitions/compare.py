@@ -1170,6 +1170,8 @@ class Cases:
                     add(edit_case(context, room, 15, operation, place, piece), context)
         add(edit_case(context, room, 15, 1, 3, inside), context)
         add(edit_case(context, room, 15, 3, 10, inside), context)
+        for piece in SHAPES + [[1, 4, 5, 9, 12, 5, 17, 2, 2, 2], [1, 4, 5, 9, 2, 2], [1, 4, 5, 25, 20, 5, 2, 2]]:
+            add(edit_case(context, room, 15, 3, 0, piece), context)
         for operation in OPERATIONS:
             for piece in SHAPES + PIECES:
                 add(edit_case(context, room, 15, operation, 3, piece), context)

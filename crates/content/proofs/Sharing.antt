@@ -15,10 +15,11 @@ use lib.ListN.{length, take, drop, getD, length-take, drop-of-length-le}
 use lib.Bits.{bitAnd, bitOr, and-zero-r, and-le-r, or-lt}
 use Rattle.paper.specs.Basics.{all, distinct}
 use Rattle.paper.specs.Sets.{bit, when}
-use Rattle.paper.specs.Table.{chosen}
+use Rattle.paper.specs.Table.{chosen, within}
 use Rattle.models.specs.Words.{bit-when}
 use Rattle.sets.specs.Laws.{clash, and-parts, same-test, bit-zero, bit-or, bit-and, bit-one}
 use Rattle.sets.specs.Chosen.{small, Free, distinct-iff, chosen-none, chosen-take, chosen-small}
+use Rattle.sets.specs.Tests.{every-iff}
 use Rattle.content.specs.Clear.{isClear, Bounded, Low, Twice, Places}
 
 -- ---- tests
@@ -150,11 +151,23 @@ module _ {n : ℕ} {names : List ℕ} (b : n ≤ length names) {r : ℕ} (s : Sh
       (λ d. distinct-iff w (take n names) .1 (to (distinct-iff (bitAnd w r) (take n names) .0 d)))
       (λ d. distinct-iff (bitAnd w r) (take n names) .1 (of (distinct-iff w (take n names) .0 d)))
 
+-- ---- a part of a set
+
+-- a part of a set that holds no two occurrences of one name holds none
+pub once-part : (names : List ℕ) (known set : ℕ) {r : Bool} → length names ≡ 64 → distinct (chosen known names) ≡ true → r ≡ within set known → r ≡ true
+    → true ≡ distinct (chosen set names)
+once-part names known set long d e t =
+    sym (distinct-iff set names .1 (λ j k i h p q s. distinct-iff known names .0 d j k i h (also j (omega arith) p) (also k (omega arith) q) s))
+  where
+    also : (k : ℕ) → k < 64 → bit set k ≡ true → bit known k ≡ true
+    also k h p = rw p at (every-iff (λ k. not (bit set k) || bit known k) 64 .0 (sym e ∙ t) k h)
+
 -- ---- the ways out of `clear`
 
--- the first set is clear, and the follow sets of the occurrences below k: the answer is that of the others
-pub record Clearing (n first : ℕ) (names follow : List ℕ) (k : ℕ) : Type 0 where
+-- the first set is clear, and the follow sets of the occurrences below k, `known` the last of them: the answer is that of the others
+pub record Clearing (n first : ℕ) (names follow : List ℕ) (known k : ℕ) : Type 0 where
   pub within : k ≤ n
+  pub once : distinct (chosen known names) ≡ true
   pub rest : all (λ w. distinct (chosen w (take n names))) (drop k (take n follow)) ≡ isClear first (take n names) (take n follow)
 
 module _ {n : ℕ} {names follow : List ℕ} (b : Bounded n names follow) where
@@ -192,10 +205,10 @@ module _ {n : ℕ} {names follow : List ℕ} (b : Bounded n names follow) where
       pub first-clash : {d : Bool} → d ≡ distinct (chosen (bitAnd first r) names) → not d ≡ true → false ≡ answer
       first-clash {d} e f = rw (walked first e ∙ not-true d f)
 
-      pub first-clear : {d : Bool} → d ≡ distinct (chosen (bitAnd first r) names) → not d ≡ false → Clearing n first names follow 0
-      first-clear {d} e f = record { within = omega arith; rest = rw (walked first e ∙ not-false d f) }
+      pub first-clear : {d : Bool} → d ≡ distinct (chosen (bitAnd first r) names) → not d ≡ false → Clearing n first names follow (bitAnd first r) 0
+      first-clear {d} e f = record { within = omega arith; once = sym e ∙ not-false d f; rest = rw (walked first e ∙ not-false d f) }
 
-      module _ (k : ℕ) (c : Clearing n first names follow k) where
+      module _ (known k : ℕ) (c : Clearing n first names follow known k) where
         pub all-clear : n ≤ k → true ≡ answer
         all-clear h = ap (all P) (sym (drop-of-length-le (take n follow) {i = k} (omega (arith, length-take n follow)))) ∙ c .rest
 
@@ -211,5 +224,5 @@ module _ {n : ℕ} {names follow : List ℕ} (b : Bounded n names follow) where
           pub next-clash : {d : Bool} → d ≡ distinct (chosen (bitAnd (getD follow k 0) r) names) → not d ≡ true → false ≡ answer
           next-clash {d} e f = rw (walked (getD follow k 0) e ∙ not-true d f) at split
 
-          pub next-clear : {d : Bool} → d ≡ distinct (chosen (bitAnd (getD follow k 0) r) names) → not d ≡ false → Clearing n first names follow (k + 1)
-          next-clear {d} e f = record { within = omega arith; rest = rw (walked (getD follow k 0) e ∙ not-false d f) at split }
+          pub next-clear : {d : Bool} → d ≡ distinct (chosen (bitAnd (getD follow k 0) r) names) → not d ≡ false → Clearing n first names follow (bitAnd (getD follow k 0) r) (k + 1)
+          next-clear {d} e f = record { within = omega arith; once = sym e ∙ not-false d f; rest = rw (walked (getD follow k 0) e ∙ not-false d f) at split }

@@ -5,14 +5,17 @@
 // set is a word, bit k for occurrence k. Assumes nothing.
 use sets::connect;
 use sets::has;
+use sets::is_within;
 use sets::one;
 use sets::one_each;
 ghost use mathlib.Core.Path.{_≡_};
-ghost use mathlib.Core.Bool.{false};
+ghost use mathlib.Core.Bool.{true, false};
 ghost use Prim.Native.Nat.{_+_, _≤_, _<_, _^_};
 ghost use lib.Seq.{sets};
 ghost use lib.ListN.{length, take, replicate};
-ghost use Rattle.paper.specs.Basics.{mostNames};
+ghost use Rattle.paper.specs.Basics.{mostNames, distinct};
+ghost use Rattle.paper.specs.Table.{chosen};
+ghost use Rattle.sets.specs.Chosen.{small};
 ghost use Rattle.paper.specs.Sets;
 ghost use Rattle.content.specs.Parts.{Got, single, sequence, choice, also};
 ghost use Rattle.content.specs.Model.{Modelled, noModel};
@@ -267,8 +270,20 @@ fn places_of(set: u64, n: usize, names: &[u64]) -> u64
     found
 }
 
+// No two members have one name. No two of `known` have, so a part of it needs no walk.
+fn once_after(known: u64, set: u64, names: &[u64]) -> bool
+    requires { ⌜ (length (now names) ≡ mostNames) × (small (chosen set (now names)) ≡ true) × (distinct (chosen known (now names)) ≡ true) ⌝ }
+    ensures { λ r. ⌜ r ≡ distinct (chosen set (now (names .entry))) ⌝ }
+{
+    if is_within(set, known) {
+        return true;
+    }
+    one_each(set, names)
+}
+
 // Neither the first set nor any of the follow sets of the `count` occurrences holds two of one name. Where all names differ
-// there is nothing to look for; else only occurrences of names that stand twice are walked over.
+// there is nothing to look for; else only occurrences of names that stand twice are walked over, and not where the set before
+// has them all.
 pub fn clear(count: usize, first: u64, names: &[u64], follow: &[u64]) -> bool
     requires { ⌜ Bounded count (now names) (now follow) ⌝ }
     ensures { λ r. ⌜ r ≡ isClear first (take count (now (names .entry))) (take count (now (follow .entry))) ⌝ }
@@ -278,14 +293,17 @@ pub fn clear(count: usize, first: u64, names: &[u64], follow: &[u64]) -> bool
         return true;
     }
     let shared = places_of(twice, count, names);
-    if !one_each(first & shared, names) {
+    let mut known = first & shared;
+    if !one_each(known, names) {
         return false;
     }
     let mut k: usize = 0;
     while k < count {
-        if !one_each(follow[k] & shared, names) {
+        let set = follow[k] & shared;
+        if !once_after(known, set, names) {
             return false;
         }
+        known = set;
         k += 1;
     }
     true

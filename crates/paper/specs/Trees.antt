@@ -3,10 +3,13 @@
 use mathlib.Core.Path.{_≡_}
 use mathlib.Core.Bool.{Bool, true, _&&_}
 use mathlib.Core.List.{List, [], _∷_}
-use Prim.Native.Nat.{ℕ}
+use Prim.Native.Nat.{ℕ, zero, suc, max, _≤_}
 use lib.Dec.{ltb}
+use lib.ListN.{length, take}
 use Rattle.paper.specs.declared.Tok.{Tok}
 use Rattle.paper.specs.declared.Tok.the-variants.{Start, End, Text, Attr, Value}
+use Rattle.paper.specs.Basics.{mostTokens, mostDeep}
+use Rattle.paper.specs.Tokens.{toks}
 
 -- an attribute with its values, of which it has at least one
 pub record Given : Type 0 where
@@ -49,6 +52,12 @@ good nil = true
 good (txt n f) = good f
 good (elem n gs k f) = rises gs && (good k && good f)
 
+-- "at most 64 deep with the root at 1": the levels of a row
+abbrev pub depth : Forest → ℕ
+depth nil = zero
+depth (txt n f) = depth f
+depth (elem n gs k f) = max (suc (depth k)) (depth f)
+
 -- d is the tokens of one element
 pub record IsTree (d : List Tok) : Type 0 where
   pub name : ℕ
@@ -56,3 +65,12 @@ pub record IsTree (d : List Tok) : Type 0 where
   pub content : Forest
   pub rising : good (elem name attributes content nil) ≡ true
   pub tokens : d ≡ flat (elem name attributes content nil) []
+
+abbrev pub treeOf : {d : List Tok} → IsTree d → Forest
+treeOf t = elem (t .name) (t .attributes) (t .content) nil
+
+-- "A document has shape if: its used length is 2 to 8,192 and no more than the buffer; [..] at most 64 deep with the root at 1": told of the
+-- tree
+abbrev pub InShape : (buffer : List ℕ) → (used : ℕ) → Type 0
+InShape buffer used =
+    (2 ≤ used) × (used ≤ mostTokens) × (used ≤ length buffer) × ((t : IsTree (toks (take used buffer))) × (depth (treeOf t) ≤ mostDeep))

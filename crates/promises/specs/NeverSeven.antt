@@ -161,12 +161,12 @@ table-sound t p =
     record {
       root-declared = parts .root-below;
       children-declared = λ e w d not0 not1 r.
-      let b : List ℕ = block t e in
-      let block-is = block-parts (getD t 0 0) b (parts .blocks e d) in
-      let k0 = eqb-false (cell b kindAt) 0 not0 in
-      let k1 = eqb-false (cell b kindAt) 1 not1 in
-      let m = block-is .modelled (omega arith) .1 in
-      run-below (getD t 0 0) b (name-below (getD t 0 0) b (parts .some-elements) m) w start r;
+          let b : List ℕ = block t e in
+          let block-is = block-parts (getD t 0 0) b (parts .blocks e d) in
+          let k0 = eqb-false (cell b kindAt) 0 not0 in
+          let k1 = eqb-false (cell b kindAt) 1 not1 in
+          let m = block-is .modelled (omega arith) .1 in
+          run-below (getD t 0 0) b (name-below (getD t 0 0) b (parts .some-elements) m) w start r;
     }
 
 -- ---- the judgement of a document with shape

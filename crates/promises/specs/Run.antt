@@ -150,11 +150,11 @@ module _ (s : Schema) (valid-iff : (buffer : List ℕ) (used : ℕ) → (checkin
     still-valid keeps leaves = elim (ℕ-discrete (o .number) 0) [
       | no n ↦ let (u, c, b) = keeps n in rw (u, b) v
       | yes z ↦ elim (ℕ-discrete (formFault (length buffer) q doc) 0) [
-          | yes f ↦
-              let (p, u, c, b) = leaves z in
-              rw (u, b) (written-valid buffer used new (shape-long buffer used (v .shape)) (new-fits f) s (exactly f .0 z))
-          | no n ↦ absurd (n (sym (form-refused n .0) ∙ z))
-        ]
+        | yes f ↦
+            let (p, u, c, b) = leaves z in
+            rw (u, b) (written-valid buffer used new (shape-long buffer used (v .shape)) (new-fits f) s (exactly f .0 z))
+        | no n ↦ absurd (n (sym (form-refused n .0) ∙ z))
+      ]
     ]
 
     right : (o .number ≢ 0 → Kept buffer used o) → (o .number ≡ 0 → Left buffer used q o) → Right s buffer used q o

@@ -15,8 +15,8 @@ use Rattle.paper.specs.Schema.{Schema, ok, stop, schemaOf}
 use Rattle.paper.specs.SchemaWritten.{schemaWritten, formed, Unambiguous, MeetsAmbiguous}
 use Rattle.paper.specs.Table.{proper}
 use Rattle.paper.specs.Tokens.{toks}
-use Rattle.paper.specs.Shape.{isElement}
-use Rattle.paper.specs.Trees.{Forest, flat, IsTree}
+use Rattle.paper.specs.Shape.{isElement, shapeOf}
+use Rattle.paper.specs.Trees.{Forest, flat, IsTree, InShape}
 use Rattle.paper.specs.TreeEdits.{TreeEdit}
 use Rattle.paper.specs.Rules.{ofSchema, ofTable}
 use Rattle.paper.specs.Judgement.{Answer, checking}
@@ -103,6 +103,10 @@ WriteThenRead = (tokens buffer room : List ℕ) (o p : Counted)
 -- "the tree": a document has the shape of one element exactly if it is the tokens of a tree of elements
 abbrev pub ShapeIsTree : Type 0
 ShapeIsTree = (d : List Tok) → (isElement d ≡ true) ↔ IsTree d
+
+-- .. and has shape exactly if it is such a tree's tokens within the limits
+abbrev pub ShapeExactly : Type 0
+ShapeExactly = (buffer : List ℕ) (used : ℕ) → (shapeOf buffer used ≡ true) ↔ InShape buffer used
 
 -- the test of a child sequence says what the expression means
 abbrev pub MatchingMeans : Type 0

@@ -11,6 +11,7 @@ use Rattle.paper.specs.Judgement.{Answer, checking}
 use Rattle.paper.specs.Validity.{ValidDocument}
 use Rattle.models.specs.Matching.{matches-iff}
 use Rattle.trees.specs.Tree.{shape-is-tree}
+use Rattle.trees.specs.TreeDepth as tree-depth
 use Rattle.schemas.specs.Written.{bytes-of}
 use Rattle.schemas.specs.Taken.{taken-exactly, ambiguous-exactly}
 use Rattle.validity.specs.Judged.{checked-valid}
@@ -79,6 +80,9 @@ write-then-read tokens buffer room o p w z r y = write-read tokens buffer room o
 
 pub shape-tree : promised.ShapeIsTree
 shape-tree = shape-is-tree
+
+pub shape-exactly : promised.ShapeExactly
+shape-exactly = tree-depth.shape-exactly
 
 pub matching-means : promised.MatchingMeans
 matching-means = matches-iff

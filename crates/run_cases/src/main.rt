@@ -6,11 +6,14 @@
 //   2 write      bytes of the buffer, what they hold, count of tokens; the tokens, four bytes each
 //   3 translate  words of the table, what they hold, length of the file; the file's bytes
 //   4 check      words of the table, used length (eight bytes), places of the buffer; what they hold, four bytes each
+//   5 edit       words of the table, used length (eight bytes), operation (four), place (eight), places of the buffer, count of the
+//                piece; what the places hold, and the piece, four bytes each
 //   6 a word     its place in the table, and its number (eight bytes)
-// The table that a translation leaves, with the words put in by 6, is the one of the checks after it. Any other byte, or a case that is cut short, ends the run.
-use libc::{STDIN_FILENO, STDOUT_FILENO};
+// The table that a translation leaves, with the words put in by 6, is the one of the checks and edits after it. Any other byte, or a case that is cut short, ends the run.
+use libc::STDIN_FILENO;
+use libc::STDOUT_FILENO;
 ghost use mathlib.Core.Path.{_≡_};
-ghost use Prim.Native.Nat.{_+_, _≤_, _<_};
+ghost use Prim.Native.Nat.{_+_, _*_, _≤_, _<_};
 ghost use lib.ListN.{length};
 
 const MOST: usize = 262144;
@@ -285,6 +288,89 @@ fn check_case(s: &[u8], at: usize, table: &[u64]) -> usize
     end
 }
 
+fn sign(change: i32) -> u32 {
+    if change < 0 {
+        return 2;
+    }
+    if change > 0 {
+        return 1;
+    }
+    0
+}
+
+// The lines of an edit: its answer with the sum over the buffer, and then the used length with the change's sign, 2 for negative.
+fn say_edit(a: edits::Answer, sum: u64) {
+    say(b"edit", a.number, a.place, sum);
+    say(b"used", 0, sign(a.change), a.used as u64);
+}
+
+// Makes an edit, and says what came of it.
+fn show_made(
+    table: &[u64],
+    doc: &mut [u32],
+    used: usize,
+    operation: u32,
+    place: usize,
+    piece: &[u32],
+) {
+    let a = edits::edit(table, doc, used, operation, place, piece);
+    say_edit(a, sum_of_tokens(doc));
+}
+
+// Makes an edit of the tokens at a place by a piece that stands after them, and says what came of it.
+fn show_edit(
+    table: &[u64],
+    s: &[u8],
+    at: usize,
+    count: usize,
+    n: usize,
+    tokens: &mut [u32],
+    piece: &mut [u32],
+)
+    requires { ⌜ (at ≤ 262144) × (at + 26 ≤ 262144) × (count ≤ length (now tokens)) × (count ≤ 16384) × (n ≤ length (now piece)) × (n ≤ 16384) × (at + 26 + 4 * count ≤ 262144) ⌝ }
+{
+    let used = long(s, at + 2) as usize;
+    let operation = token(s, at + 10);
+    let place = long(s, at + 14) as usize;
+    load(s, at + 26, tokens, count);
+    load(s, at + 26 + 4 * count, piece, n);
+    show_made(
+        table,
+        &mut tokens[..count],
+        used,
+        operation,
+        place,
+        &piece[..n],
+    );
+}
+
+// A case of `edit` whose numbers begin at a place; the place after the case.
+fn edit_case(s: &[u8], at: usize, table: &[u64]) -> usize
+    requires { ⌜ (at ≤ length (now s)) × (length (now s) ≤ 262144) ⌝ }
+    ensures { λ r. ⌜ at ≤ r ⌝ }
+{
+    let words = pair(s, at);
+    let count = pair(s, at + 22);
+    let n = pair(s, at + 24);
+    let end = at + 26 + 4 * count + 4 * n;
+    if words > table.len() {
+        return s.len();
+    }
+    if count > PLACES {
+        return s.len();
+    }
+    if n > PLACES {
+        return s.len();
+    }
+    if end > s.len() {
+        return s.len();
+    }
+    let mut tokens = places_of(0);
+    let mut piece = places_of(0);
+    show_edit(&table[..words], s, at, count, n, &mut tokens, &mut piece);
+    end
+}
+
 // A word that goes into the table; the place after the case.
 fn word_case(s: &[u8], at: usize, table: &mut [u64]) -> usize
     requires { ⌜ (at ≤ length (now s)) × (length (now s) ≤ 262144) ⌝ }
@@ -315,6 +401,9 @@ fn one_case(s: &[u8], at: usize, table: &mut [u64]) -> usize
     }
     if call == 4 {
         return check_case(s, at + 1, table);
+    }
+    if call == 5 {
+        return edit_case(s, at + 1, table);
     }
     if call == 6 {
         return word_case(s, at + 1, table);

@@ -11,6 +11,7 @@ pub mod Depth
 pub mod Touch
 pub mod Five
 pub mod Tree
+pub mod TreeDepth
 pub mod Move
 pub mod Bridge
 pub mod Kids

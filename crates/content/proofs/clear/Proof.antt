@@ -1,4 +1,4 @@
--- `clear` meets its contract. The loop: the answer is that of the follow sets from k on. Assumes nothing.
+-- `clear` meets its contract. The loop: the answer is that of the follow sets from k on, and the set before holds no two. Assumes nothing.
 use Prim.Native.Nat.{_-_}
 use borrow.Author.Needs.{needs}
 use Rattle.content.proofs.Sharing.{Clearing, names-differ, walk-small, first-clash, first-clear, next-clash, next-clear, all-clear}
@@ -6,10 +6,10 @@ use Rattle.content.proofs.clear.Statement.{statement}
 use Rattle.content.proofs.clear.Tie as tie
 
 abbrev Inv-loop : tie.InvT-loop
-Inv-loop count first names follow twice shared k₀ k = Clearing count first names follow k
+Inv-loop count first names follow twice shared known₀ k₀ known k = Clearing count first names follow known k
 
 abbrev μ-loop : tie.MeasureT-loop
-μ-loop count first names follow twice shared k₀ k = count - k
+μ-loop count first names follow twice shared known₀ k₀ known k = count - k
 
 repeated-requires : tie.Need-repeated-requires Inv-loop μ-loop
 repeated-requires c κs = search needs
@@ -29,14 +29,14 @@ returns-2 c = search first-clash
 loop-holds : tie.Need-loop-holds Inv-loop μ-loop
 loop-holds c = search first-clear
 
-mul-one-each : tie.Need-mul-one-each Inv-loop μ-loop
-mul-one-each c = search needs
+mul-set : tie.Need-mul-set Inv-loop μ-loop
+mul-set c = search needs
 
-shared-slice-read-one-each : tie.Need-shared-slice-read-one-each Inv-loop μ-loop
-shared-slice-read-one-each c = search needs
+shared-slice-read-set : tie.Need-shared-slice-read-set Inv-loop μ-loop
+shared-slice-read-set c = search needs
 
-one-each-requires-2 : tie.Need-one-each-requires-2 Inv-loop μ-loop
-one-each-requires-2 c κs = (search needs, search walk-small)
+once-after-requires : tie.Need-once-after-requires Inv-loop μ-loop
+once-after-requires c κs = (search needs, search walk-small, search needs)
 
 returns-3 : tie.Need-returns-3 Inv-loop μ-loop
 returns-3 c = search next-clash
@@ -50,8 +50,8 @@ loop-less c = search needs
 loop-again : tie.Need-loop-again Inv-loop μ-loop
 loop-again c =
     let calls = c .before .before .before .before .before .before .before in
-    next-clear (calls .before .before .before .before .before .pre) (calls .before .before .repeated .ensures) (calls .places-of .ensures) _ _ (c .before .before .before .before .loop .inv) (c .before .before .before .loop-test .taken)
-    (c .before .one-each2 .ensures) (c .if3 .left)
+    next-clear (calls .before .before .before .before .before .pre) (calls .before .before .repeated .ensures) (calls .places-of .ensures) _ _ _ (c .before .before .before .before .loop .inv) (c .before .before .before .loop-test .taken)
+    (c .before .once-after .ensures) (c .if3 .left)
 
 returns-4 : tie.Need-returns-4 Inv-loop μ-loop
 returns-4 c = search all-clear
@@ -68,9 +68,9 @@ clear-spec =
     one-each-requires
     returns-2
     loop-holds
-    mul-one-each
-    shared-slice-read-one-each
-    one-each-requires-2
+    mul-set
+    shared-slice-read-set
+    once-after-requires
     returns-3
     add-k
     loop-less

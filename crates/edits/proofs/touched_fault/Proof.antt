@@ -1,0 +1,50 @@
+-- `edits::touched_fault` meets its contract. Assumes nothing.
+use Rattle.edits.specs.Touched.{touched-alone, touched-parent, touched-piece}
+use borrow.Author.Needs.{needs}
+use Rattle.edits.proofs.touched_fault.Statement.{statement}
+use Rattle.edits.proofs.touched_fault.Tie as tie
+
+parent-of-requires : tie.Need-parent-of-requires
+parent-of-requires c κs = search needs
+
+add-first-fault : tie.Need-add-first-fault
+add-first-fault c = search needs
+
+first-fault-requires : tie.Need-first-fault-requires
+first-fault-requires c κs = search needs
+
+returns : tie.Need-returns
+returns c = search touched-alone
+
+element-number-requires : tie.Need-element-number-requires
+element-number-requires c κs = search needs
+
+cast-t11 : tie.Need-cast-t11
+cast-t11 c = search needs
+
+returns-2 : tie.Need-returns-2
+returns-2 c = search touched-parent
+
+add-first-fault-2 : tie.Need-add-first-fault-2
+add-first-fault-2 c = search needs
+
+first-fault-requires-2 : tie.Need-first-fault-requires-2
+first-fault-requires-2 c κs = search needs
+
+returns-3 : tie.Need-returns-3
+returns-3 c = search touched-piece
+
+pub touched-fault-spec : {M : Type 1} → statement M
+touched-fault-spec =
+    tie.close
+    (tie.spec
+    parent-of-requires
+    add-first-fault
+    first-fault-requires
+    returns
+    element-number-requires
+    cast-t11
+    returns-2
+    add-first-fault-2
+    first-fault-requires-2
+    returns-3)

@@ -1,0 +1,20 @@
+-- `edits::write` meets its contract. Assumes nothing.
+use Rattle.edits.specs.Written.{put-written}
+use borrow.Author.Needs.{needs}
+use Rattle.edits.proofs.write.Statement.{statement}
+use Rattle.edits.proofs.write.Tie as tie
+
+put-back-requires : tie.Need-put-back-requires
+put-back-requires c κs = search needs
+
+clear-requires : tie.Need-clear-requires
+clear-requires c κs = search needs
+
+same-length : tie.Need-same-length
+same-length c = search needs
+
+returns : tie.Need-returns
+returns c = search put-written
+
+pub write-spec : {M : Type 1} → statement M
+write-spec = tie.close (tie.spec put-back-requires clear-requires same-length returns)

@@ -1,0 +1,296 @@
+-- The form of an edit: what the code tells of its piece, place and size. Assumes nothing.
+use mathlib.Core.Path.{_≡_, refl, sym, ap, ap₂, _∙_}
+use mathlib.Core.Bool.{Bool, true, false, cond, not, _&&_}
+use mathlib.Core.List.{List, [], _++_}
+use Prim.Native.Nat.{ℕ, suc, _+_, _-_, _≤_, _<_}
+use native.Mathlib.Omega.{arith}
+use borrow.Author.Tests.{le-leb, lt-leb, leb-true, ne-eqb, not-true, not-false}
+use lib.Dec.{leb, eqb}
+use lib.ListN.{length, take, drop, length-map, length-append, length-drop, length-take}
+use lib.Seq.{take-length, length-take-le}
+use Rattle.paper.specs.declared.Tok.{Tok}
+use Rattle.paper.specs.Basics.{mostTokens, between}
+use Rattle.paper.specs.Tokens.{toks, tokOf, itemSize}
+use Rattle.paper.specs.Shape.{isElement, shallow, shapeOf}
+use Rattle.paper.specs.Edits.{Request, attrAt, attrCut, goodPiece, goodPlace, spliceAt, spliceCut, coming, splice, edited, fits, formFault}
+use Rattle.trees.specs.Move.{Spliced}
+use Rattle.trees.specs.ShapeTurns.{length-toks}
+use Rattle.trees.specs.Keep.{Cut, element-parts}
+use Rattle.trees.specs.Local.{clash}
+use Rattle.trees.specs.Splice.{cut-item}
+use Rattle.trees.specs.Attrs.{attr-rest}
+use Rattle.trees.specs.Five.{Allowed, insert, remove, replace, replace-root, attribute, five-keep}
+use Rattle.trees.specs.EditJudged.{allowed-by, edited-toks}
+use Rattle.edits.specs.declared.Plan.{Plan}
+use Rattle.edits.specs.Plan.{planned, planOf}
+use Rattle.edits.specs.declared.Form.{Form}
+
+-- the result, of tokens `new` in a buffer of `room` places
+pub record Made (room at n : ℕ) (new : List ℕ) (r : Form) (after : List ℕ) : Type 0 where
+  pub number : r .number ≡ cond (fits room new) 0 5
+  pub place : r .number ≡ 0 → r .at ≡ at
+  pub come : r .number ≡ 0 → r .coming ≡ n
+  pub size : r .number ≡ 0 → r .used ≡ length new
+  pub tokens : r .number ≡ 0 → take (r .used) after ≡ new
+
+-- the same, by the request
+pub record Formed (room : ℕ) (q : Request) (doc : List ℕ) (r : Form) (after : List ℕ) : Type 0 where
+  pub number : r .number ≡ formFault room q doc
+  pub place : r .number ≡ 0 → r .at ≡ spliceAt (q .operation) (q .place) (toks (q .piece)) (toks doc)
+  pub come : r .number ≡ 0 → r .coming ≡ length (coming (q .operation) (q .piece))
+  pub size : r .number ≡ 0 → r .used ≡ length (edited q doc)
+  pub tokens : r .number ≡ 0 → take (r .used) after ≡ edited q doc
+
+-- ---- what comes
+
+module _ (op : ℕ) (piece : List ℕ) where
+  pub come-1 : op ≡ 1 → length piece ≡ length (coming op piece)
+  come-1 e = rw e
+
+  pub come-3 : op ≡ 3 → length piece ≡ length (coming op piece)
+  come-3 e = rw e
+
+  pub come-4 : op ≡ 4 → length piece ≡ length (coming op piece)
+  come-4 e = rw e
+
+  pub come-none : (op ≡ 1 → ⊥) → (op ≡ 3 → ⊥) → (op ≡ 4 → ⊥) → 0 ≡ length (coming op piece)
+  come-none h j k = rw (ne-eqb op 1 h, ne-eqb op 3 j, ne-eqb op 4 k) (go (eqb op 2))
+    where
+      go : (b : Bool) → 0 ≡ length (cond b [] (cond false piece (cond false piece [])))
+      go true = refl
+      go false = refl
+
+  come-cases : (P : List ℕ → Type 0) → P piece → P [] → P (coming op piece)
+  come-cases P a b = go (eqb op 1) (eqb op 2) (eqb op 3) (eqb op 4)
+    where
+      go : (w x y z : Bool) → P (cond w piece (cond x [] (cond y piece (cond z piece []))))
+      go true x y z = a
+      go false true y z = b
+      go false false true z = a
+      go false false false true = a
+      go false false false false = b
+
+  pub come-le : {n : ℕ} → n ≡ length (coming op piece) → n ≤ length piece
+  come-le e = rw e (come-cases (λ l. length l ≤ length piece) (omega arith) (omega arith))
+
+  pub come-taken : {n : ℕ} → n ≡ length (coming op piece) → take (n - 0) (drop 0 piece) ≡ coming op piece
+  come-taken {n} e = let z : n - 0 ≡ n = omega arith in rw (z, e) (come-cases (λ l. take (length l) piece ≡ l) (take-length piece) refl)
+
+-- ---- the size of the result
+
+no-and : (a : Bool) → a && false ≡ false
+no-and true = refl
+no-and false = refl
+
+and-one : (a : Bool) → a && true ≡ a
+and-one true = refl
+and-one false = refl
+
+module _ (doc : List ℕ) (used at cut : ℕ) (piece : List ℕ) (h : at + cut ≤ used) (l : used ≤ length doc) where
+  abbrev new : List ℕ
+  new = splice at cut piece (take used doc)
+
+  pub size-is : length new ≡ used - cut + length piece
+  size-is =
+      let d : List ℕ = take used doc in
+      let a : length d ≡ used = length-take-le used doc l in
+      let b : length (take at d) ≡ at = length-take-le at d (omega arith) in
+      omega (arith, length-append (take at d) (piece ++ drop (at + cut) d), length-append piece (drop (at + cut) d), length-drop (at + cut) d)
+
+  made-bad : {r : Form} {after : List ℕ} → fits (length doc) new ≡ false → r .number ≡ 5 → Made (length doc) at (length piece) new r after
+  made-bad f e =
+      record {
+        number = e ∙ rw f;
+        place = λ z. absurd (omega arith);
+        come = λ z. absurd (omega arith);
+        size = λ z. absurd (omega arith);
+        tokens = λ z. absurd (omega arith);
+      }
+
+  module _ {r : Form} {after : List ℕ} where
+    pub made-long : mostTokens < used - cut + length piece → r .number ≡ 5 → Made (length doc) at (length piece) new r after
+    made-long g e = made-bad (rw (size-is, lt-leb (used - cut + length piece) mostTokens g)) e
+
+    pub made-past : length doc < used - cut + length piece → r .number ≡ 5 → Made (length doc) at (length piece) new r after
+    made-past g e = made-bad (rw (size-is, lt-leb (used - cut + length piece) (length doc) g) (no-and (leb (used - cut + length piece) mostTokens && shallow (toks new)))) e
+
+  module _ (few : used - cut + length piece ≤ mostTokens) (room : used - cut + length piece ≤ length doc) where
+    fits-is : fits (length doc) new ≡ shallow (toks new)
+    fits-is = rw (size-is, le-leb (used - cut + length piece) mostTokens few, le-leb (used - cut + length piece) (length doc) room) (and-one (shallow (toks new)))
+
+    module _ (one : isElement (toks new) ≡ true) {before after : List ℕ} {k : ℕ} (lb : length before ≡ mostTokens) (s : Spliced doc used at cut piece before k after)
+        {y : Bool} (ey : y ≡ shapeOf after (used - cut + length piece)) where
+      tokens-are : take (used - cut + length piece) after ≡ new
+      tokens-are = rw (← s .count) (s .tokens)
+
+      shape-is : y ≡ shallow (toks new)
+      unfolding shapeOf
+      shape-is =
+          let n : ℕ = used - cut + length piece in
+          let two : 2 ≤ n = let g = element-parts (toks new) one .1 in omega (arith, length-map new tokOf, size-is) in
+          let t : length (take n after) ≡ n = ap length tokens-are ∙ size-is in
+          let long : n ≤ length after = omega (arith, length-take n after) in
+          ey ∙ rw (le-leb 2 n two, le-leb n mostTokens few, le-leb n (length after) long, tokens-are, one)
+
+      pub made-deep : {r : Form} → not y ≡ true → r .number ≡ 5 → Made (length doc) at (length piece) new r after
+      made-deep g e = made-bad (fits-is ∙ sym shape-is ∙ not-true y g) e
+
+      pub made-good : not y ≡ false → Made (length doc) at (length piece) new (record { number = 0; at = at; coming = length piece; used = used - cut + length piece }) after
+      made-good g =
+          let f : fits (length doc) new ≡ true = fits-is ∙ sym shape-is ∙ not-false y g in
+          record { number = rw f; place = λ z. refl; come = λ z. refl; size = λ z. sym size-is; tokens = λ z. tokens-are }
+
+-- ---- the form
+
+cut-within : (d : List Tok) (at n : ℕ) → Cut n (drop (suc at) d) → suc at + n ≤ length d
+cut-within d at n c = omega (arith, ap length (c .splits), length-drop n (drop (suc at) d), length-drop (suc at) d)
+
+-- an allowed edit lies in the document
+pub allowed-within : (d : List Tok) → isElement d ≡ true → {at n : ℕ} {piece : List Tok} → Allowed d at n piece → at + n ≤ length d
+allowed-within d e (insert at t x s c w) = omega (arith, ap length s, length-drop (suc at) d)
+allowed-within d e (remove at h) = cut-within d at (itemSize (drop (suc at) d)) (cut-item d at e h)
+allowed-within d e (replace at h w) = cut-within d at (itemSize (drop (suc at) d)) (cut-item d at e h)
+allowed-within d e (replace-root f) = omega arith
+allowed-within d e (attribute a p s put) = omega (arith, attr-rest a p d (element-parts d e .2) s, length-drop (attrAt a p d + attrCut a p d) d)
+
+pub and-parts : (a b : Bool) → a && b ≡ true → (a ≡ true) × (b ≡ true)
+and-parts true b e = (refl, e)
+and-parts false b e = clash e refl
+
+-- a document with shape
+pub record Shaped (buf : List ℕ) (used : ℕ) : Type 0 where
+  pub few : used ≤ mostTokens
+  pub long : used ≤ length buf
+  pub one : isElement (toks (take used buf)) ≡ true
+
+pub shaped : (buf : List ℕ) (used : ℕ) → shapeOf buf used ≡ true → Shaped buf used
+unfolding shapeOf
+shaped buf used e =
+    let d : List Tok = toks (take used buf) in
+    let (s, _) = and-parts _ (shallow d) e in
+    let (s, one) = and-parts _ (isElement d) s in
+    let (s, long) = and-parts _ (leb used (length buf)) s in
+    let (_, few) = and-parts (leb 2 used) (leb used mostTokens) s in
+    record { few = leb-true used mostTokens few; long = leb-true used (length buf) long; one = one }
+
+pub shaped-few : (buf : List ℕ) (used : ℕ) → shapeOf buf used ≡ true → used ≤ mostTokens
+shaped-few buf used e = shaped buf used e .few
+
+pub shaped-long : (buf : List ℕ) (used : ℕ) → shapeOf buf used ≡ true → used ≤ length buf
+shaped-long buf used e = shaped buf used e .long
+
+-- a good plan
+pub record Good (op place : ℕ) (p d : List Tok) (r : Plan) : Type 0 where
+  pub stands : goodPlace op place p d ≡ true
+  pub at : r .at ≡ spliceAt op place p d
+  pub cut : r .cut ≡ spliceCut op place p d
+
+plan-good : (op place : ℕ) (p d : List Tok) {r : Plan} → r ≡ planOf op place p d → not (r .ok) ≡ false → Good op place p d r
+unfolding planOf
+plan-good op place p d {r} e n = go (goodPlace op place p d) refl e
+  where
+    go : (b : Bool) → goodPlace op place p d ≡ b → r ≡ planned b (spliceAt op place p d) (spliceCut op place p d) → Good op place p d r
+    go true f e = record { stands = f; at = ap (λ (x : Plan). x .at) e; cut = ap (λ (x : Plan). x .cut) e }
+    go false f e = clash (ap (λ (x : Plan). not (x .ok)) e) n
+
+plan-bad : (op place : ℕ) (p d : List Tok) {r : Plan} → r ≡ planOf op place p d → not (r .ok) ≡ true → goodPlace op place p d ≡ false
+unfolding planOf
+plan-bad op place p d {r} e n = go (goodPlace op place p d) refl e
+  where
+    go : (b : Bool) → goodPlace op place p d ≡ b → r ≡ planned b (spliceAt op place p d) (spliceCut op place p d) → goodPlace op place p d ≡ false
+    go true f e = clash n (ap (λ (x : Plan). not (x .ok)) e)
+    go false f e = f
+
+module _ (room op place : ℕ) (piece : List ℕ) (buf : List ℕ) (used : ℕ) where
+  abbrev q : Request
+  q = record { operation = op; place = place; piece = piece }
+
+  form-bad : {r : Form} {after : List ℕ} (k : ℕ) → 0 < k → r .number ≡ k → k ≡ formFault room q (take used buf) → Formed room q (take used buf) r after
+  form-bad k s e f =
+      record {
+        number = e ∙ f;
+        place = λ z. absurd (omega arith);
+        come = λ z. absurd (omega arith);
+        size = λ z. absurd (omega arith);
+        tokens = λ z. absurd (omega arith);
+      }
+
+  pub form-none : {r : Form} {after : List ℕ} → op ≡ 0 → r .number ≡ 6 → Formed room q (take used buf) r after
+  unfolding formFault
+  form-none h e = form-bad 6 (omega arith) e wrong
+    where
+      wrong : 6 ≡ formFault room q (take used buf)
+      wrong = rw h
+
+  pub form-high : {r : Form} {after : List ℕ} → 5 < op → r .number ≡ 6 → Formed room q (take used buf) r after
+  unfolding formFault
+  form-high h e = form-bad 6 (omega arith) e wrong
+    where
+      wrong : 6 ≡ formFault room q (take used buf)
+      wrong = rw (lt-leb op 5 h, no-and (leb 1 op))
+
+  module _ (low : op ≡ 0 → ⊥) (high : op ≤ 5) {y : Bool} (ey : y ≡ goodPiece op (toks piece)) where
+    five : between 1 5 op ≡ true
+    five = rw (le-leb 1 op (omega arith), le-leb op 5 high)
+
+    pub form-piece : {r : Form} {after : List ℕ} → not y ≡ true → r .number ≡ 4 → Formed room q (take used buf) r after
+    unfolding formFault
+    form-piece n e = form-bad 4 (omega arith) e wrong
+      where
+        wrong : 4 ≡ formFault room q (take used buf)
+        wrong = rw (five, ← ey, not-true y n)
+
+    module _ (n : not y ≡ false) {pl : Plan} (ep : pl ≡ planOf op place (toks piece) (toks (take used buf))) where
+      pub form-place : {r : Form} {after : List ℕ} → not (pl .ok) ≡ true → r .number ≡ 6 → Formed room q (take used buf) r after
+      unfolding formFault
+      form-place m e = form-bad 6 (omega arith) e wrong
+        where
+          wrong : 6 ≡ formFault room q (take used buf)
+          wrong = rw (five, ← ey, not-false y n, plan-bad op place (toks piece) (toks (take used buf)) ep m)
+
+      module _ (m : not (pl .ok) ≡ false) where
+        good : Good op place (toks piece) (toks (take used buf)) pl
+        good = plan-good op place (toks piece) (toks (take used buf)) ep m
+
+        pub edited-is : {cm : List ℕ} → cm ≡ coming op piece → splice (pl .at) (pl .cut) cm (take used buf) ≡ edited q (take used buf)
+        unfolding edited
+        edited-is {cm} ec =
+            ap₂ (λ x z. splice x z cm (take used buf)) (good .at) (good .cut)
+            ∙ ap (λ z. splice (spliceAt op place (toks piece) (toks (take used buf))) (spliceCut op place (toks piece) (toks (take used buf))) z (take used buf)) ec
+
+        pub form-made : {cm : List ℕ} {r : Form} {after : List ℕ} → cm ≡ coming op piece → Made room (pl .at) (length cm) (splice (pl .at) (pl .cut) cm (take used buf)) r after
+            → Formed room q (take used buf) r after
+        unfolding formFault
+        form-made ec s =
+            let e = edited-is ec in
+            record {
+              number = s .number ∙ ap (λ x. cond (fits room x) 0 5) e ∙ right;
+              place = λ z. s .place z ∙ good .at;
+              come = λ z. s .come z ∙ ap length ec;
+              size = λ z. s .size z ∙ ap length e;
+              tokens = λ z. s .tokens z ∙ e;
+            }
+          where
+            right : cond (fits room (edited q (take used buf))) 0 5 ≡ formFault room q (take used buf)
+            right = rw (five, ← ey, not-false y n, good .stands)
+
+        module _ (sh : shapeOf buf used ≡ true) where
+          allowed : Allowed (toks (take used buf)) (spliceAt op place (toks piece) (toks (take used buf))) (spliceCut op place (toks piece) (toks (take used buf))) (coming op (toks piece))
+          allowed = allowed-by (toks (take used buf)) (toks piece) (shaped buf used sh .one) op place five (sym ey ∙ not-false y n) (good .stands)
+
+          pub plan-within : pl .at + pl .cut ≤ used
+          plan-within =
+              omega (arith, allowed-within (toks (take used buf)) (shaped buf used sh .one) allowed, good .at, good .cut, length-toks buf used (shaped buf used sh .long))
+
+          pub come-few : {cm : List ℕ} → cm ≡ coming op piece → length cm ≤ mostTokens
+          unfolding goodPiece
+          come-few {cm} ec = short (sym ey ∙ not-false y n)
+            where
+              short : goodPiece op (toks piece) ≡ true → length cm ≤ mostTokens
+              short g =
+                  let a = leb-true (length (toks piece)) mostTokens (and-parts (leb (length (toks piece)) mostTokens) _ g .0) in
+                  omega (arith, length-map piece tokOf, come-le op piece (ap length ec))
+
+          pub one-element : {cm : List ℕ} → cm ≡ coming op piece → isElement (toks (splice (pl .at) (pl .cut) cm (take used buf))) ≡ true
+          one-element ec =
+              ap (λ x. isElement (toks x)) (edited-is ec) ∙ ap isElement (edited-toks q (take used buf)) ∙ five-keep (toks (take used buf)) (shaped buf used sh .one) allowed

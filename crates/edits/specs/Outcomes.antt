@@ -1,0 +1,163 @@
+-- The answer with what it leaves, as the paper's outcome. Assumes nothing.
+use mathlib.Core.Path.{_≡_, refl, sym, ap, ap₂, _∙_}
+use mathlib.Core.Bool.{Bool, true, false, not, _&&_}
+use mathlib.Core.List.{List}
+use Prim.Native.Nat.{ℕ, zero, suc, _+_, _-_, _≤_}
+use native.Mathlib.Omega.{arith}
+use borrow.Author.Tests.{leb-true, ne-eqb, not-true, not-false}
+use lib.Dec.{leb}
+use lib.IntN.{ℤ, pos, _-ℤ_}
+use lib.ListN.{length, take, length-take}
+use lib.Seq.{take-take, length-take-le}
+use Rattle.paper.specs.Basics.{mostTokens}
+use Rattle.paper.specs.Tokens.{toks, touched}
+use Rattle.paper.specs.Shape.{shallow, shapeOf}
+use Rattle.paper.specs.Table.{proper}
+use Rattle.paper.specs.Rules.{ofTable}
+use Rattle.paper.specs.Judgement.{judge}
+use Rattle.paper.specs.Judgement as judgement
+use Rattle.paper.specs.Edits.{Request, spliceAt, spliceCut, coming, edited, touchedBy, refused, done, answered, editing, Outcome, written, outcome, editBy, edit}
+use Rattle.trees.specs.EditJudged.{Asked, form-iff, allowed-by}
+use Rattle.keys.specs.declared.Fault.{Fault}
+use Rattle.edits.specs.declared.Answer.{Answer}
+use Rattle.edits.specs.declared.Form.{Form}
+use Rattle.edits.specs.Form.{Formed, shaped, and-parts, allowed-within, size-is}
+use Rattle.edits.specs.Written.{splice-front}
+use Rattle.trees.specs.ShapeTurns.{length-toks}
+
+-- with the buffer
+abbrev pub outcomeOf : Answer → List ℕ → Outcome
+outcomeOf r b = record { number = r .number; place = r .place; used = r .used; change = r .change; buffer = b }
+
+abbrev pub refusal : ℕ → ℕ → ℕ → Answer
+refusal number place used = record { number = number; place = place; used = used; change = pos 0 }
+
+-- ---- what holds of an edit in form
+
+pub record Ready (buf : List ℕ) (used : ℕ) (r : Form) (after : List ℕ) : Type 0 where
+  pub old : used ≤ mostTokens
+  pub in-buffer : used ≤ length buf
+  pub few : r .used ≤ mostTokens
+  pub room : r .used ≤ length buf
+  pub long : r .used ≤ length after
+  pub within : r .at + r .coming ≤ r .used
+  pub front : take (r .at) (take (r .used) after) ≡ take (r .at) buf
+
+module _ (op place : ℕ) (piece buf : List ℕ) (used : ℕ) where
+  abbrev q : Request
+  q = record { operation = op; place = place; piece = piece }
+
+  pub form-ready : {r : Form} {after : List ℕ} → shapeOf buf used ≡ true → Formed (length buf) q (take used buf) r after → r .number ≡ 0 → Ready buf used r after
+  unfolding edited
+  form-ready {r} {after} sh f z =
+      let s = shaped buf used sh in
+      let a : Asked (length buf) q (take used buf) = form-iff (length buf) q (take used buf) .0 (sym (f .number) ∙ z) in
+      let new : List ℕ = edited q (take used buf) in
+      let at : ℕ = spliceAt op place (toks piece) (toks (take used buf)) in
+      let cut : ℕ = spliceCut op place (toks piece) (toks (take used buf)) in
+      let inner : at + cut ≤ length (toks (take used buf)) = allowed-within (toks (take used buf)) (s .one)
+      (allowed-by (toks (take used buf)) (toks piece) (s .one) op place (a .operation) (a .piece) (a .place)) in
+      let u : length (toks (take used buf)) ≡ used = length-toks buf used (s .long) in
+      let size : length new ≡ used - cut + length (coming op piece) = size-is buf used at cut (coming op piece) (omega arith) (s .long) in
+      let (most, room) = and-parts (leb (length new) mostTokens && shallow (toks new)) (leb (length new) (length buf)) (a .size) in
+      let (few, _) = and-parts (leb (length new) mostTokens) (shallow (toks new)) most in
+      let few = leb-true (length new) mostTokens few in
+      let room = leb-true (length new) (length buf) room in
+      let n = f .size z in
+      let p = f .place z in
+      let c = f .come z in
+      let t = ap length (f .tokens z) in
+      record {
+        old = s .few;
+        in-buffer = s .long;
+        few = omega arith;
+        room = omega arith;
+        long = omega (arith, length-take (r .used) after);
+        within = omega arith;
+        front = ap₂ take p (f .tokens z) ∙ splice-front at cut (coming op piece) (take used buf) (omega (arith, length-take-le used buf (s .long)))
+            ∙ take-take at used buf (omega arith) ∙ ap (λ k. take k buf) (sym p);
+      }
+
+  module _ {r : Form} {after : List ℕ} (sh : shapeOf buf used ≡ true) (f : Formed (length buf) q (take used buf) r after) (z : r .number ≡ 0) where
+    pub ready-few : r .used ≤ mostTokens
+    ready-few = form-ready sh f z .few
+
+    pub ready-room : r .used ≤ length buf
+    ready-room = form-ready sh f z .room
+
+    pub ready-long : r .used ≤ length after
+    ready-long = form-ready sh f z .long
+
+    pub ready-within : r .at + r .coming ≤ r .used
+    ready-within = form-ready sh f z .within
+
+    pub ready-at : r .at ≤ r .used
+    ready-at = omega (arith, form-ready sh f z .within)
+
+    pub ready-front : take (r .at) (take (r .used) after) ≡ take (r .at) buf
+    ready-front = form-ready sh f z .front
+
+  -- ---- the ways out
+
+  answered-form : (k : ℕ) (a : judgement.Answer) (new : List ℕ) → (k ≡ 0 → ⊥) → answered k a new ≡ refused k 0
+  answered-form zero a new h = absurd (h refl)
+  answered-form (suc k) a new h = refl
+
+  module _ (table : List ℕ) {r : Form} {after : List ℕ} (f : Formed (length buf) q (take used buf) r after) where
+    pub edit-form : {x : Answer} → (r .number ≡ 0 → ⊥) → x ≡ refusal (r .number) 0 used
+        → outcomeOf x buf ≡ outcome buf used (editing (ofTable table) (length buf) q (take used buf))
+    unfolding editing
+    edit-form h e =
+        ap (λ y. outcomeOf y buf) e
+        ∙ ap (outcome buf used)
+        (sym (ap (λ k. answered k (judge (ofTable table) (touchedBy q (take used buf)) (toks (edited q (take used buf)))) (edited q (take used buf))) (sym (f .number))
+        ∙ answered-form (r .number) (judge (ofTable table) (touchedBy q (take used buf)) (toks (edited q (take used buf)))) (edited q (take used buf)) h))
+
+    module _ (z : r .number ≡ 0) {w : Fault}
+        (ew : (w .number, w .place) ≡ judge (ofTable table) (touched (r .at) (r .coming) (toks (take (r .used) after))) (toks (take (r .used) after))) where
+      fault-is : (w .number, w .place) ≡ judge (ofTable table) (touchedBy q (take used buf)) (toks (edited q (take used buf)))
+      unfolding touchedBy
+      fault-is =
+          ew
+          ∙ ap₂ (λ x y. judge (ofTable table) (touched x y (toks (take (r .used) after))) (toks (take (r .used) after))) (f .place z) (f .come z)
+          ∙ ap (λ l. judge (ofTable table) (touched (spliceAt op place (toks piece) (toks (take used buf))) (length (coming op piece)) (toks l)) (toks l)) (f .tokens z)
+
+      editing-is : answered 0 (w .number, w .place) (edited q (take used buf)) ≡ editing (ofTable table) (length buf) q (take used buf)
+      unfolding editing
+      editing-is = ap₂ (λ k a. answered k a (edited q (take used buf))) (sym z ∙ f .number) fault-is
+
+      pub edit-fault : {x : Answer} → (w .number ≡ 0 → ⊥) → x ≡ refusal (w .number) (w .place) used
+          → outcomeOf x buf ≡ outcome buf used (editing (ofTable table) (length buf) q (take used buf))
+      edit-fault h e =
+          ap (λ y. outcomeOf y buf) e
+          ∙ ap (outcome buf used) (rw (ne-eqb (w .number) 0 h) at editing-is)
+
+      pub edit-done : {after′ : List ℕ} {d : ℤ} → w .number ≡ 0 → after′ ≡ written buf used (take (r .used) after) → d ≡ pos (r .used) -ℤ pos used
+          → outcomeOf (record { number = 0; place = 0; used = r .used; change = d }) after′ ≡ outcome buf used (editing (ofTable table) (length buf) q (take used buf))
+      edit-done {after′} {d} h eb ed =
+          let new : List ℕ = edited q (take used buf) in
+          let e : done new ≡ editing (ofTable table) (length buf) q (take used buf) = rw h at editing-is in
+          let b : after′ ≡ written buf used new = eb ∙ ap (written buf used) (f .tokens z) in
+          let n : r .used ≡ length new = f .size z in
+          ap₂ (λ y v. outcomeOf (record { number = 0; place = 0; used = r .used; change = y }) v) ed b
+          ∙ ap (λ k. outcomeOf (record { number = 0; place = 0; used = k; change = pos k -ℤ pos used }) (written buf used new)) n
+          ∙ ap (outcome buf used) e
+
+  -- ---- the call
+
+  module _ (table : List ℕ) {y : Bool} (ey : y ≡ proper table) where
+    pub edit-table : {x : Answer} → not y ≡ true → x ≡ refusal 13 0 used → outcomeOf x buf ≡ edit table buf used q
+    unfolding edit
+    edit-table h e = rw (← ey, not-true y h) (ap (λ y. outcomeOf y buf) e)
+
+    module _ (h : not y ≡ false) {z : Bool} (ez : z ≡ shapeOf buf used) where
+      pub edit-shape : {x : Answer} → not z ≡ true → x ≡ refusal 4 0 used → outcomeOf x buf ≡ edit table buf used q
+      unfolding edit editBy
+      edit-shape g e = rw (← ey, not-false y h, ← ez, not-true z g) (ap (λ y. outcomeOf y buf) e)
+
+      pub edit-whole : {o : Outcome} → not z ≡ false → o ≡ outcome buf used (editing (ofTable table) (length buf) q (take used buf)) → o ≡ edit table buf used q
+      unfolding edit editBy
+      edit-whole g e = rw (← ey, not-false y h, ← ez, not-false z g) e
+
+pub is-shaped : (buf : List ℕ) (used : ℕ) {z : Bool} → z ≡ shapeOf buf used → not z ≡ false → shapeOf buf used ≡ true
+is-shaped buf used {z} e h = sym e ∙ not-false z h

@@ -1,0 +1,168 @@
+-- What the code tells of a piece is what the paper asks of it. Assumes nothing.
+use mathlib.Core.Path.{_≡_, refl, sym, ap, ap₂, _∙_}
+use mathlib.Core.Bool.{Bool, true, false, cond, not, _&&_}
+use mathlib.Core.List.{List, [], _∷_}
+use Prim.Native.Nat.{ℕ, suc, _-_, _≤_, _<_}
+use native.Mathlib.Omega.{arith}
+use borrow.Author.Tests.{le-leb, lt-leb, ne-eqb, not-true, not-false}
+use lib.Dec.{eqb}
+use lib.ListN.{length, take, drop, getD, length-map}
+use lib.Seq.{take-length}
+use Rattle.paper.specs.declared.Tok.{Tok}
+use Rattle.paper.specs.declared.Tok.the-variants.{Start, End, Text, Attr, Value, Bad}
+use Rattle.paper.specs.Basics.{mostTokens, null}
+use Rattle.paper.specs.Tokens.{tokOf, toks, values}
+use Rattle.paper.specs.Shape.{isElement, shallow}
+use Rattle.paper.specs.Edits.{byOperation, isText, goodItem, attrWith, someValues, goodPiece, attrNumber}
+use Rattle.edits.specs.Tests.{textTok, isAttr, attrOf, headTok}
+
+-- ---- one of five, by the operation
+
+module _ {A : Type 0} (op : ℕ) (a b c d e : A) where
+  pub by-1 : op ≡ 1 → byOperation op a b c d e ≡ a
+  by-1 h = rw h
+
+  pub by-2 : op ≡ 2 → byOperation op a b c d e ≡ b
+  by-2 h = rw h
+
+  pub by-3 : op ≡ 3 → byOperation op a b c d e ≡ c
+  by-3 h = rw h
+
+  pub by-4 : op ≡ 4 → byOperation op a b c d e ≡ d
+  by-4 h = rw h
+
+  pub by-more : (op ≡ 1 → ⊥) → (op ≡ 2 → ⊥) → (op ≡ 3 → ⊥) → byOperation op a b c d e ≡ cond (eqb op 4) d e
+  by-more h i j = rw (ne-eqb op 1 h, ne-eqb op 2 i, ne-eqb op 3 j)
+
+  pub by-5 : (op ≡ 1 → ⊥) → (op ≡ 2 → ⊥) → (op ≡ 3 → ⊥) → (op ≡ 4 → ⊥) → byOperation op a b c d e ≡ e
+  by-5 h i j k = rw (ne-eqb op 1 h, ne-eqb op 2 i, ne-eqb op 3 j, ne-eqb op 4 k)
+
+-- ---- one text
+
+text-alone : (t : Tok) → textTok t ≡ isText (t ∷ [])
+text-alone (Start n) = refl
+text-alone End = refl
+text-alone (Text n) = refl
+text-alone (Attr n) = refl
+text-alone (Value n) = refl
+text-alone Bad = refl
+
+text-more : (t u : Tok) (r : List Tok) → false ≡ isText (t ∷ u ∷ r)
+text-more (Start n) u r = refl
+text-more End u r = refl
+text-more (Text n) u r = refl
+text-more (Attr n) u r = refl
+text-more (Value n) u r = refl
+text-more Bad u r = refl
+
+pub text-not : (p : List ℕ) → (length p ≡ 1 → ⊥) → false ≡ isText (toks p)
+text-not [] h = refl
+text-not (x ∷ []) h = absurd (h refl)
+text-not (x ∷ y ∷ p) h = text-more (tokOf x) (tokOf y) (toks p)
+
+pub text-one : (p : List ℕ) → length p ≡ 1 → {t : Tok} {y : Bool} → t ≡ tokOf (getD p 0 0) → y ≡ textTok t → y ≡ isText (toks p)
+text-one [] h et ey = absurd (omega arith)
+text-one (x ∷ []) h et ey = ey ∙ ap textTok et ∙ text-alone (tokOf x)
+text-one (x ∷ y ∷ p) h et ey = absurd (omega arith)
+
+-- ---- one text, or one element
+
+pub item-element : (p : List ℕ) {y z : Bool} → y ≡ isText (toks p) → y ≡ false → z ≡ isElement (toks p) && shallow (toks p) → z ≡ goodItem (toks p)
+item-element p ey e ez = rw (← ey, e) ez
+
+-- ---- an attribute, with values or alone
+
+module _ (P : List Tok → Bool) where
+  attr-head : (t : Tok) (r : List Tok) → attrWith P (t ∷ r) ≡ isAttr t && P r
+  attr-head (Start n) r = refl
+  attr-head End r = refl
+  attr-head (Text n) r = refl
+  attr-head (Attr n) r = refl
+  attr-head (Value n) r = refl
+  attr-head Bad r = refl
+
+  attr-false : (t : Tok) (r : List Tok) → P r ≡ false → false ≡ attrWith P (t ∷ r)
+  attr-false t r e = sym (attr-head t r ∙ go (isAttr t) ∙ e)
+    where
+      go : (b : Bool) → b && P r ≡ P r
+      go true = refl
+      go false = sym e
+
+pub alone-not : (p : List ℕ) → (length p ≡ 1 → ⊥) → false ≡ attrWith null (toks p)
+alone-not [] h = refl
+alone-not (x ∷ []) h = absurd (h refl)
+alone-not (x ∷ y ∷ p) h = attr-false null (tokOf x) (toks (y ∷ p)) refl
+
+and-one : (b : Bool) → b ≡ b && true
+and-one true = refl
+and-one false = refl
+
+pub alone-one : (p : List ℕ) → length p ≡ 1 → {t : Tok} {y : Bool} → t ≡ tokOf (getD p 0 0) → y ≡ isAttr t → y ≡ attrWith null (toks p)
+alone-one [] h et ey = absurd (omega arith)
+alone-one (x ∷ []) h et ey = ey ∙ ap isAttr et ∙ and-one (isAttr (tokOf x)) ∙ sym (attr-head null (tokOf x) [])
+alone-one (x ∷ y ∷ p) h et ey = absurd (omega arith)
+
+pub set-short : (p : List ℕ) → length p < 2 → false ≡ attrWith someValues (toks p)
+set-short [] h = refl
+set-short (x ∷ []) h = attr-false someValues (tokOf x) [] refl
+set-short (x ∷ y ∷ p) h = absurd (omega arith)
+
+module _ {t : Tok} {y : Bool} where
+  pub set-other : (p : List ℕ) → 2 ≤ length p → t ≡ tokOf (getD p 0 0) → y ≡ isAttr t → not y ≡ true → false ≡ attrWith someValues (toks p)
+  set-other [] h et ey n = refl
+  set-other (x ∷ p) h et ey n =
+      let z : isAttr (tokOf x) ≡ false = sym (ey ∙ ap isAttr et) ∙ not-true y n in
+      sym (attr-head someValues (tokOf x) (toks p) ∙ ap (λ b. b && someValues (toks p)) z)
+
+  pub set-values : (p : List ℕ) → 2 ≤ length p → t ≡ tokOf (getD p 0 0) → y ≡ isAttr t → not y ≡ false → {n : ℕ} → n ≡ values (drop 1 (toks (take (length p) p)))
+      → eqb n (length p - 1) ≡ attrWith someValues (toks p)
+  set-values [] h et ey m en = absurd (omega arith)
+  set-values (x ∷ []) h et ey m en = absurd (omega arith)
+  set-values (x ∷ z ∷ p) h et ey m {n} en =
+      let a : n ≡ values (toks (z ∷ p)) = en ∙ ap (λ l. values (toks l)) (take-length (z ∷ p)) in
+      let b : suc (suc (length p)) - 1 ≡ length (toks (z ∷ p)) = omega (arith, length-map (z ∷ p) tokOf) in
+      let w : isAttr (tokOf x) ≡ true = sym (ey ∙ ap isAttr et) ∙ not-false y m in
+      ap₂ eqb a b ∙ sym (attr-head someValues (tokOf x) (toks (z ∷ p)) ∙ ap (λ b. b && someValues (toks (z ∷ p))) w)
+
+-- its number
+attr-number : (r : List Tok) → attrOf (headTok r) ≡ attrNumber r
+attr-number [] = refl
+attr-number (Start n ∷ r) = refl
+attr-number (End ∷ r) = refl
+attr-number (Text n ∷ r) = refl
+attr-number (Attr n ∷ r) = refl
+attr-number (Value n ∷ r) = refl
+attr-number (Bad ∷ r) = refl
+
+pub number-of : (p : List ℕ) {t : Tok} {n : ℕ} → t ≡ headTok (drop 0 (toks (take (length p) p))) → n ≡ attrOf t → n ≡ attrNumber (toks p)
+number-of p et en = en ∙ ap attrOf (et ∙ ap (λ l. headTok (toks l)) (take-length p)) ∙ attr-number (toks p)
+
+-- ---- the piece, by the operation
+
+empty-is : (p : List ℕ) → eqb (length p) 0 ≡ null (toks p)
+empty-is [] = refl
+empty-is (x ∷ p) = ne-eqb (suc (length p)) 0 (λ e. omega arith)
+
+pub piece-long : (op : ℕ) (p : List ℕ) → mostTokens < length p → false ≡ goodPiece op (toks p)
+unfolding goodPiece
+piece-long op p h = rw (length-map p tokOf, lt-leb (length p) mostTokens h)
+
+module _ (op : ℕ) (p : List ℕ) (h : length p ≤ mostTokens) where
+  short : byOperation op (goodItem (toks p)) (null (toks p)) (goodItem (toks p)) (attrWith someValues (toks p)) (attrWith null (toks p)) ≡ goodPiece op (toks p)
+  unfolding goodPiece
+  short = rw (length-map p tokOf, le-leb (length p) mostTokens h)
+
+  pub piece-1 : {y : Bool} → op ≡ 1 → y ≡ goodItem (toks p) → y ≡ goodPiece op (toks p)
+  piece-1 e ey = ey ∙ sym (by-1 op _ _ _ _ _ e) ∙ short
+
+  pub piece-2 : op ≡ 2 → eqb (length p) 0 ≡ goodPiece op (toks p)
+  piece-2 e = empty-is p ∙ sym (by-2 op _ _ _ _ _ e) ∙ short
+
+  pub piece-3 : {y : Bool} → op ≡ 3 → y ≡ goodItem (toks p) → y ≡ goodPiece op (toks p)
+  piece-3 e ey = ey ∙ sym (by-3 op _ _ _ _ _ e) ∙ short
+
+  pub piece-4 : {y : Bool} → op ≡ 4 → y ≡ attrWith someValues (toks p) → y ≡ goodPiece op (toks p)
+  piece-4 e ey = ey ∙ sym (by-4 op _ _ _ _ _ e) ∙ short
+
+  pub piece-5 : {y : Bool} → (op ≡ 1 → ⊥) → (op ≡ 2 → ⊥) → (op ≡ 3 → ⊥) → (op ≡ 4 → ⊥) → y ≡ attrWith null (toks p) → y ≡ goodPiece op (toks p)
+  piece-5 a b c d ey = ey ∙ sym (by-5 op _ _ _ _ _ a b c d) ∙ short

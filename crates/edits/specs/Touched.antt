@@ -1,0 +1,85 @@
+-- The judgement of an edited document at what is touched: the parent of the place, if there is one, and then the piece. Assumes nothing.
+use mathlib.Core.Path.{_≡_, refl, sym, ap, _∙_}
+use mathlib.Core.Bool.{Bool, true, false, cond, _&&_, _||_}
+use mathlib.Core.List.{List, [], _∷_}
+use Prim.Native.Nat.{ℕ, zero, suc, _+_, _≤_, _<_}
+use native.Mathlib.Omega.{arith}
+use lib.ListN.{length, take, drop}
+use lib.Seq.{take-take}
+use Rattle.paper.specs.declared.Tok.{Tok}
+use Rattle.paper.specs.Tokens.{tokOf, toks, starts, balanced, parent, touched}
+use Rattle.paper.specs.Rules.{ofTable}
+use Rattle.paper.specs.Judgement.{Answer, faultAt, first, startPlace, elementFault, judge, orElse}
+use Rattle.trees.specs.Touch.{inside, touched-is, parentOf}
+use Rattle.trees.specs.ShapeTurns.{length-toks}
+use Rattle.keys.specs.declared.Fault.{Fault}
+use Rattle.judge.specs.Elements.{found, firstIn, first-same}
+use Rattle.judge.specs.Check.{judgedWith, judged-is}
+
+-- the first fault among the touched elements
+abbrev pub touchedFirst : (table doc : List ℕ) (used at n : ℕ) → Answer
+touchedFirst table doc used at n = first (elementFault (ofTable table)) startPlace (touched at n (toks (take used doc))) 0 (toks (take used doc))
+
+-- ---- the parent
+
+pub parent-is : (a : List Tok) → parentOf a < length a → parent a (parentOf a) ≡ true
+unfolding parentOf
+parent-is [] h = absurd (omega arith)
+parent-is (t ∷ a) h = go (parent-is a) (starts t && balanced a) refl h
+  where
+    go : (parentOf a < length a → parent a (parentOf a) ≡ true) → (b : Bool) → starts t && balanced a ≡ b → cond b 0 (suc (parentOf a)) < suc (length a)
+        → parent (t ∷ a) (cond b 0 (suc (parentOf a))) ≡ true
+    go ih true f h = f
+    go ih false f h = ih (omega arith)
+
+pub parent-no : (a : List Tok) → length a ≤ parentOf a → (i : ℕ) → parent a i ≡ false
+unfolding parentOf
+parent-no [] h zero = refl
+parent-no [] h (suc i) = refl
+parent-no (t ∷ a) h i = go (parent-no a) (starts t && balanced a) refl h i
+  where
+    go : (length a ≤ parentOf a → (i : ℕ) → parent a i ≡ false) → (b : Bool) → starts t && balanced a ≡ b → suc (length a) ≤ cond b 0 (suc (parentOf a))
+        → (i : ℕ) → parent (t ∷ a) i ≡ false
+    go ih true f h i = absurd (omega arith)
+    go ih false f h zero = f
+    go ih false f h (suc i) = ih (omega arith) i
+
+toks-take : (n : ℕ) (a : List ℕ) → toks (take n a) ≡ take n (toks a)
+toks-take zero a = refl
+toks-take (suc n) [] = refl
+toks-take (suc n) (x ∷ a) = ap (λ r. tokOf x ∷ r) (toks-take n a)
+
+-- ---- what is touched
+
+module _ (table doc : List ℕ) (used at n : ℕ) (l : used ≤ length doc) (h : at + n ≤ used) {p : ℕ} (ep : p ≡ parentOf (toks (take at doc))) where
+  before-is : take at (toks (take used doc)) ≡ toks (take at doc)
+  before-is = sym (toks-take at (take used doc)) ∙ ap toks (take-take at used doc (omega arith))
+
+  no-parent : at ≤ p → (j : ℕ) → parent (take at (toks (take used doc))) j ≡ false
+  no-parent g j = rw before-is (parent-no (toks (take at doc)) (omega (arith, length-toks doc at (omega arith))) j)
+
+  pub touched-alone : {f : Fault} → at ≤ p → (f .number, f .place) ≡ firstIn table doc used at (at + n) → (f .number, f .place) ≡ touchedFirst table doc used at n
+  touched-alone g e =
+      e
+      ∙ sym
+      (first-same (elementFault (ofTable table)) startPlace (touched at n (toks (take used doc))) (inside at n) 0 (toks (take used doc))
+      (λ j k. ap (λ b. b || inside at n (0 + j)) (no-parent g (0 + j))))
+
+  module _ (g : p < at) {k : ℕ} (ek : k ≡ faultAt (elementFault (ofTable table)) (drop p (toks (take used doc)))) where
+    both : orElse k p (firstIn table doc used at (at + n)) ≡ touchedFirst table doc used at n
+    both =
+        let z : parentOf (toks (take at doc)) < length (toks (take at doc)) = omega (arith, length-toks doc at (omega arith)) in
+        let y : parent (take at (toks (take used doc))) p ≡ true = rw (before-is, ep) (parent-is (toks (take at doc)) z) in
+        ap (λ x. orElse x p (firstIn table doc used at (at + n))) ek ∙ sym (touched-is (elementFault (ofTable table)) at n p (toks (take used doc)) y)
+
+    pub touched-parent : (k ≡ 0 → ⊥) → (k, p) ≡ touchedFirst table doc used at n
+    touched-parent f = found k p (firstIn table doc used at (at + n)) f ∙ both
+
+    pub touched-piece : {f : Fault} → k ≡ 0 → (f .number, f .place) ≡ firstIn table doc used at (at + n) → (f .number, f .place) ≡ touchedFirst table doc used at n
+    touched-piece z e = e ∙ ap (λ x. orElse x p (firstIn table doc used at (at + n))) (sym z) ∙ both
+
+-- the judgement
+pub judged-touched : (table doc : List ℕ) (used at n : ℕ) {f r : Fault} → (f .number, f .place) ≡ touchedFirst table doc used at n
+    → (r .number, r .place) ≡ judgedWith table doc used (f .number, f .place)
+    → (r .number, r .place) ≡ judge (ofTable table) (touched at n (toks (take used doc))) (toks (take used doc))
+judged-touched table doc used at n ef er = er ∙ ap (judgedWith table doc used) ef ∙ judged-is table doc used (touched at n (toks (take used doc)))
