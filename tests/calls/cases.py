@@ -186,6 +186,7 @@ class Core:
         for _ in range(rng.randrange(3, 9)):
             yield self.check(*self.document())
             yield from self.edits()
+        yield self.check(*self.noise())
         yield self.check(*self.document(), words=rng.choice((0, 1, TABLE - 1, TABLE + 1)))
         yield self.edit([1, 2], 2, 1, 1, [3], words=rng.choice((0, 1, TABLE - 1, TABLE + 1)))
         for _ in range(3):
@@ -202,6 +203,17 @@ class Core:
         for wanted in (1, 2, 2, 3):
             yield self.translate(self.make.schema_file(wanted), held=self.rng.randrange(65536))
         yield self.translate(self.make.schema_file(0), words=self.rng.choice((0, TABLE - 1, TABLE + 1)))
+        file = bytes(self.make.schema_file(0))
+        yield self.translate(damaged(self.rng, file))
+        yield self.translate(file[:self.rng.randrange(len(file))])
+
+    def noise(self):
+        """Tokens of every sort, in no order."""
+        rng = self.rng
+        tokens = [8 * rng.choice((0, 0, 1, 2, 3, 65535, 65536)) + rng.randrange(8) for _ in range(rng.randrange(30))]
+        if rng.randrange(3):
+            tokens = [1] + tokens + [2]
+        return tokens, max(0, len(tokens) + rng.choice((-1, 0, 0, 0, 1)))
 
     def limits(self):
         """The small shade; 64 names and 65; 8,192 tokens and 8,193; 64 deep and 65."""
@@ -221,6 +233,11 @@ class Core:
         for names in (64, 65):
             symbols = [0, 6] * (names - 1) + [6]
             yield self.translate(reference.file_of([2, 0, 2, len(symbols)] + symbols + [0, 0, 0]))
+        for symbols in ([2, 3, 4] * 84 + [2, 3, 6],                        # 254 operators before a name
+                        [4] * 255, [0] * 127 + [6] * 128, [1] * 47 + [5 + e for e in range(48)]):
+            yield self.translate(reference.file_of([48, 0, 2, len(symbols)] + symbols + [0] + [0, 0] * 47))
+        names = [0, 2, 6] * 31 + [2, 3, 4, 7] * 10 + [6]
+        yield self.translate(reference.file_of([48, 47] + [0, 0] * 47 + [2, len(names)] + names + [0]))
         row = [3, 5]                                     # element 0 any number of times
         yield self.translate(reference.file_of([1, 0, 2, 2] + row + [0]))
         for deep in (64, 65):

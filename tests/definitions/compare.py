@@ -1218,6 +1218,22 @@ class Cases:
             tokens = [1, 508] + [8 * k + 5 for k in range(2)] + some + [2]
             add(check_case(last, tokens, len(tokens)), last)
 
+        # the same in a table that no schema gives: occurrence 63 may be first,
+        # follow itself and be last; no attributes
+        table = list(last.table)
+        top = 1 << 63
+        for at, value in ((1, 0), (2, 0), (3, 0), (4, 0), (5, 0), (8, top + (top >> 1)), (9, top), (74 + 62, top), (74 + 63, top + 1)):
+            table[2 + at] = value
+        for at in range(1, 6):
+            table[2 + BLOCK + at] = 0
+        own = Context(None, table)
+        self.contexts.append(own)
+        add(proper_case(table))
+        for names in ([2], [1], [1, 2], [2, 2, 2], [2, 1], [2, 1, 2], [1, 2, 2, 1], []):
+            tokens = [1] + [t for name in names for t in (8 * name + 1, 2)] + [2]
+            add(check_case(own, tokens, len(tokens)), own)
+            add(edit_case(own, tokens + [7] * 4, len(tokens), 1, 1, [17, 2]), own)
+
         # forty-eight elements, each once in the root's model
         names = [3] + [1] * 46 + [5 + e for e in range(1, 48)]
         most = self.translated_context([48, 0, 2, len(names)] + names + [0] + [0, 0] * 47)
