@@ -21,6 +21,8 @@ import sys
 import tempfile
 import time
 
+sys.dont_write_bytecode = True
+
 import reference as ref
 from reference import (ID, IDREF, IDREFS, CDATA, START, END, TEXT, ATTRIBUTE, VALUE,
                        TABLE, BLOCK, TOKENS, LARGEST, Element, Text)
@@ -34,6 +36,10 @@ OPERATIONS = {1: 'insert', 2: 'remove', 3: 'replace', 4: 'set', 5: 'drop'}
 
 # ------------------------------------------------- what must have occurred
 
+# Each answer that the paper lets a call give. A whole check never gives 7; a
+# removal or a drop makes nothing longer or deeper and never gives 5; an edit of
+# a valid document never gives 7. Rows in brackets count the edits once more, by
+# the document that they start from.
 ALL = {0, 4, 5, 6, 7, 8, 9, 10, 11, 12, 13}
 REQUIRED = {
     'read': {0, 1, 5},
@@ -57,8 +63,8 @@ REQUIRED = {
     'editBy other': {4, 6},
     'check, own table': {0, 4, 8, 9, 10, 11, 12},
     'edit, own table': ALL - {13},
-    '(of a valid doc)': ALL - {7, 13},
-    '(of an invalid)': ALL - {13},
+    '(valid before)': ALL - {7, 13},
+    '(invalid before)': ALL - {13},
     'printed': {'lines', 'check not 0', 'stop 1', 'stop 2', 'stop 3', 'stop 5'},
 }
 
@@ -807,7 +813,7 @@ def edit_case(context, buffer, used, operation, place, piece):
     if context.good:
         before = ref.check_by_schema(context.rules, buffer, used)[0]
         if before != 4:
-            rows.append(('(of an invalid)' if before else '(of a valid doc)', number))
+            rows.append(('(invalid before)' if before else '(valid before)', number))
     return Case(terms, told(call='edit', buffer=buffer, used=used, operation=operation, place=place, piece=piece,
                             expected=answer), rows)
 
@@ -1348,6 +1354,10 @@ def declared(name, context, holds):
     return '\n%s : %s ≡ true\nunfolding all-open\n%s = refl\n' % (name, left, name)
 
 
+class Unchecked(Exception):
+    """Something else than an equation failed."""
+
+
 class Scratch:
     """A repository with the crate `paper` and a crate of equations."""
 
@@ -1368,8 +1378,7 @@ class Scratch:
 
     def check(self, modules):
         """modules: {name: (context, [(equation name, Boolean terms)])}.
-        Gives the names of the equations that fail; exits if anything else
-        fails."""
+        Gives the names of the equations that fail; raises Unchecked."""
         for name in os.listdir(self.specs):
             if name not in ('Same.antt',):
                 os.remove(os.path.join(self.specs, name))
@@ -1399,9 +1408,7 @@ class Scratch:
                 else:
                     strange.append(line[:600])
         if strange or not failed:
-            print('\n'.join(strange[:20]) or output[-3000:])
-            print('the equations could not be checked: see %s' % self.folder)
-            sys.exit(2)
+            raise Unchecked('\n'.join(strange[:20]) or output[-3000:])
         return failed
 
 
@@ -1416,8 +1423,8 @@ def locate(scratch, failed):
             parts.append((label, [part.holds]))
             by_name[equation.module, label] = (equation, case, part)
     bad = [by_name[name] for name in sorted(scratch.check(modules))]
-    modules = {}
-    for k, (equation, _, part) in enumerate(bad[:5]):
+    modules, probed = {}, 5
+    for k, (equation, _, part) in enumerate(bad[:probed]):
         parts = []
         for at, (_, text, bits) in enumerate(part.probes):
             name = 'p%d' % at
@@ -1426,12 +1433,15 @@ def locate(scratch, failed):
             for bit in range(bits or 0):
                 parts.append(('%sb%d' % (name, bit), ['eqb ((%s) / %d %% 2) 1' % (text, 2 ** bit)]))
         modules['P%03d' % k] = (equation.context, parts)
-    wrong = scratch.check(modules)
+    try:
+        wrong = scratch.check(modules)
+    except Unchecked:
+        probed = 0
     lines = []
     for k, (equation, case, part) in enumerate(bad[:20]):
         answers = []
         for at, (label, text, bits) in enumerate(part.probes):
-            if k >= 5:
+            if k >= probed:
                 break
             if bits is None:
                 answers.append('%s: %s' % (label, 'no' if ('P%03d' % k, 'p%d' % at) in wrong else 'yes'))
@@ -1477,7 +1487,12 @@ def main():
         names[equation.module, label] = equation
     scratch = Scratch(paper)
     sys.stdout.flush()
-    failed = scratch.check(modules)
+    try:
+        failed = scratch.check(modules)
+    except Unchecked as what:
+        print(what)
+        print('the equations could not be checked: see %s' % scratch.folder)
+        sys.exit(2)
     print('%d equations computed in %.0f s' % (len(all_equations), time.time() - made))
     print()
     for call in REQUIRED:
