@@ -25,7 +25,7 @@ sys.dont_write_bytecode = True
 
 import reference as ref
 from reference import (ID, IDREF, IDREFS, CDATA, START, END, TEXT, ATTRIBUTE, VALUE,
-                       TABLE, BLOCK, TOKENS, LARGEST, Element, Text)
+                       TABLE, BLOCK, LARGEST, Element, Text)
 
 HERE = os.path.dirname(os.path.abspath(__file__))
 PAPER = os.path.join(os.path.dirname(os.path.dirname(HERE)), 'crates', 'paper')
