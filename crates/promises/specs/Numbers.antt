@@ -84,7 +84,7 @@ write-answers tokens buffer o e = counted-answers (4 ∷ 5 ∷ []) (writing toke
 -- ---- translator
 
 module _ {A : Type 0} where
-  abbrev Stops : Parsed A → Type 0
+  abbrev pub Stops : Parsed A → Type 0
   Stops (stop k) = T (elem k (1 ∷ 2 ∷ 3 ∷ []))
   Stops (ok a s) = Unit {0}
 
@@ -159,7 +159,7 @@ finished-stops : (x : Schema) (s : List ℕ) → Stops (finished x s)
 finished-stops x [] = tt
 finished-stops x (b ∷ s) = tt
 
-schema-stops : (file : List ℕ) → Stops (schemaOf file)
+pub schema-stops : (file : List ℕ) → Stops (schemaOf file)
 unfolding schemaOf
 schema-stops file =
     then-stops (number 1 mostElements file) _ (number-stops 1 mostElements file)

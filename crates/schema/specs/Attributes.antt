@@ -17,7 +17,7 @@ use Rattle.tables.specs.Readers.{after, number-in}
 use Rattle.schema.specs.declared.Step.{Step}
 use Rattle.schema.specs.declared.Declared.{Declared}
 use Rattle.schema.specs.declared.Attributes.{Attributes}
-use Rattle.schema.specs.Reading.{Ended, ended-stop, ended-went, Numbered, value-of, prefixed, prefixed-none, prefixed-more}
+use Rattle.schema.specs.Reading.{Ended, ended-stop, ended-went, Numbered, value-of, refused-below, prefixed, prefixed-none, prefixed-more}
 
 -- ---- one attribute
 
@@ -110,10 +110,12 @@ module _ (s : Attributes) (a : Declared) {v w x y z : ℕ} where
 
 -- ---- one attribute at a place
 
-module _ (low : ℕ) (had : Bool) (file : List ℕ) (at : ℕ) {a : Step} (p : Numbered low (mostAttributes - 1) file at a) where
-  pub attribute-number : {r : Declared} → (a .number ≡ 0 → ⊥) → r ≡ noAttribute (a .number) → AttributeAt low had file at r
-  attribute-number z q = rw q (ended-stop z (rw (p .stopped z)))
+-- its number is refused, up to any bound that is high enough
+pub attribute-number : (low top : ℕ) (had : Bool) (file : List ℕ) (at : ℕ) {a : Step} → Numbered low top file at a → mostAttributes - 1 ≤ top
+    → {r : Declared} → (a .number ≡ 0 → ⊥) → r ≡ noAttribute (a .number) → AttributeAt low had file at r
+attribute-number low top had file at p h z q = rw q (ended-stop z (rw (refused-below low (mostAttributes - 1) top file at h p z)))
 
+module _ (low : ℕ) (had : Bool) (file : List ℕ) (at : ℕ) {a : Step} (p : Numbered low (mostAttributes - 1) file at a) where
   module _ (z : a .number ≡ 0) {k : Step} (q : Numbered 0 3 file (a .next) k) where
     pub attribute-kind : {r : Declared} → (k .number ≡ 0 → ⊥) → r ≡ noAttribute (k .number) → AttributeAt low had file at r
     attribute-kind y e = rw e (ended-stop y (rw (value-of low (mostAttributes - 1) file at p z .reads, q .stopped y)))

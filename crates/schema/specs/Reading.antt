@@ -1,16 +1,19 @@
 -- What a reader comes to at a place of the file: it goes on, and the value and the place after it are told; or it stops, and the
 -- number of the refusal is told. Assumes nothing.
 use mathlib.Core.Path.{_≡_, refl, sym, ap, _∙_}
+use mathlib.Core.Bool.{Bool, true, false, cond, _&&_}
 use mathlib.Core.List.{List, [], _∷_, _++_, append-assoc}
 use Prim.Native.Nat.{ℕ, _≤_, _<_}
 use native.Mathlib.Omega.{arith}
-use borrow.Author.Tests.{le-leb, lt-leb}
+use borrow.Author.Tests.{le-leb, lt-leb, leb-true}
+use lib.Dec.{leb}
 use lib.ListN.{length, drop}
-use Rattle.paper.specs.Schema.{Parsed, stop, ok, pure, onward, number}
+use Rattle.paper.specs.Files.{Front, broken, got, front}
+use Rattle.paper.specs.Schema.{Parsed, stop, ok, pure, onward, valued, number}
 use Rattle.numbers.specs.At.{numAt, Stands, at-got, at-broken}
 use Rattle.numbers.specs.declared.Num.{Num}
 use Rattle.numbers.specs.declared.Num.the-variants.{Broken, Got}
-use Rattle.tables.specs.Readers.{number-in}
+use Rattle.tables.specs.Readers.{number-in, never-stop}
 use Rattle.schema.specs.declared.Step.{Step}
 use Rattle.schema.specs.declared.Place.{Place}
 
@@ -83,6 +86,22 @@ module _ (lo hi : ℕ) (file : List ℕ) (at : ℕ) where
       let e : number lo hi (drop at file) ≡ ok (r .value) (drop (r .next) file) = w .reads ∙ ap (λ v. ok v (drop (r .next) file)) (w .holds) in
       let (low, high) = number-in lo hi (drop at file) e in
       record { reads = e; within = w .within; low = low; high = high }
+
+-- what is refused up to a bound is refused up to a lower one, with the same number
+pub refused-below : (lo hi top : ℕ) (file : List ℕ) (at : ℕ) {r : Step} → hi ≤ top → Numbered lo top file at r → (r .number ≡ 0 → ⊥)
+    → number lo hi (drop at file) ≡ stop (r .number)
+unfolding number
+refused-below lo hi top file at {r} h n z = go (front (drop at file)) (n .stopped z)
+  where
+    go : (x : Front) → valued lo top x ≡ stop (r .number) → valued lo hi x ≡ stop (r .number)
+    go broken e = e
+    go (got k t) e = by (leb lo k) (leb k hi) (leb k top) (λ q. le-leb k top (omega (arith, leb-true k hi q))) e
+      where
+        by : (a b c : Bool) → (b ≡ true → c ≡ true) → cond (a && c) (ok k t) (stop 2) ≡ stop (r .number) → cond (a && b) (ok k t) (stop 2) ≡ stop (r .number)
+        by false b c f e = e
+        by true true c f e = rw (f refl) at e
+        by true false true f e = never-stop (sym e)
+        by true false false f e = e
 
 -- ---- several in a row
 

@@ -13,7 +13,7 @@ use Rattle.paper.specs.Schema.{Element, ok, elementsOf, schemaOf}
 use Rattle.paper.specs.Table.{tableLength, blockLength, blockOf, tableOf, translate}
 use Rattle.schema.specs.declared.Step.{Step}
 use Rattle.schema.specs.declared.Place.{Place}
-use Rattle.schema.specs.Reading.{Went, Ended, ended-stop, ended-went, Numbered, Value, value-of, prefixed, prefixed-none, prefixed-more}
+use Rattle.schema.specs.Reading.{Went, Ended, ended-stop, ended-went, Numbered, Value, value-of, refused-below, prefixed, prefixed-none, prefixed-more}
 use Rattle.schema.specs.Element.{ElementIn}
 
 -- two numbers, and zeros after them
@@ -156,32 +156,36 @@ module _ (E : ℕ) (file : List ℕ) (at : ℕ) (before : List ℕ) where
 
 -- ---- the schema
 
-module _ (file : List ℕ) {n : Step} (p : Numbered 1 mostElements file 0 n) where
-  pub schema-count : (table : List ℕ) → (n .number ≡ 0 → ⊥) → SchemaIn file (n .number) table
+-- the count, up to any bound that is high enough
+module _ (top : ℕ) (file : List ℕ) {n : Step} (p : Numbered 1 top file 0 n) where
+  pub schema-count : mostElements ≤ top → (table : List ℕ) → (n .number ≡ 0 → ⊥) → SchemaIn file (n .number) table
   unfolding schemaOf
-  schema-count table z = ended-stop z (rw (p .stopped z))
+  schema-count h table z = ended-stop z (rw (refused-below 1 mostElements top file 0 h p z))
 
+  pub count-some : n .number ≡ 0 → 1 ≤ n .value
+  count-some z = value-of 1 top file 0 p z .low
+
+module _ (file : List ℕ) {n : Step} (p : Numbered 1 mostElements file 0 n) where
   module _ (z : n .number ≡ 0) where
     count : Value 1 mostElements file 0 n
     count = value-of 1 mostElements file 0 p z
 
-    pub count-some : 1 ≤ n .value
-    count-some = count .low
-
     pub count-few : n .value ≤ mostElements
     count-few = count .high
 
-    module _ {r : Step} (q : Numbered 0 (n .value - 1) file (n .next) r) where
-      pub schema-root : (table : List ℕ) → (r .number ≡ 0 → ⊥) → SchemaIn file (r .number) table
+    -- the root, up to any bound that is high enough
+    module _ (top : ℕ) {r : Step} (q : Numbered 0 top file (n .next) r) where
+      pub schema-root : n .value - 1 ≤ top → (table : List ℕ) → (r .number ≡ 0 → ⊥) → SchemaIn file (r .number) table
       unfolding schemaOf
-      schema-root table y = ended-stop y (rw (count .reads, q .stopped y))
+      schema-root h table y = ended-stop y (rw (count .reads, refused-below 0 (n .value - 1) top file (n .next) h q y))
 
+      pub root-within : r .number ≡ 0 → r .next ≤ length file
+      root-within y = value-of 0 top file (n .next) q y .within
+
+    module _ {r : Step} (q : Numbered 0 (n .value - 1) file (n .next) r) where
       module _ (y : r .number ≡ 0) where
         root : Value 0 (n .value - 1) file (n .next) r
         root = value-of 0 (n .value - 1) file (n .next) q y
-
-        pub root-within : r .next ≤ length file
-        root-within = root .within
 
         module _ {before after : List ℕ} {e : Place} (w : ElementsIn (n .value) file (r .next) e before after) where
           pub schema-elements : (e .number ≡ 0 → ⊥) → SchemaIn file (e .number) after

@@ -2,6 +2,7 @@
 use mathlib.Core.Path.{_≡_, _∙_}
 use mir.Syntax.{w32}
 use mir.Val.{toZ, ofZ}
+use native.Mathlib.Omega.{arith}
 use Rattle.edits.specs.Outcomes.{edit-form, edit-fault, edit-done, ready-few, ready-room, ready-long, ready-within, ready-at, ready-front}
 use Rattle.edits.specs.Form.{shaped-few, shaped-long}
 use borrow.Author.Needs.{needs}
@@ -36,7 +37,10 @@ same-length-2 : tie.Need-same-length-2
 same-length-2 c = search needs
 
 returns-2 : tie.Need-returns-2
-returns-2 c = search edit-fault
+returns-2 c =
+    let a = c .before .before .before .before .before .before .before .before .before .before .before .before .before .before .args in
+    edit-fault (a .operation) (a .place) (a .piece .now) (a .doc .now) (a .used) (a .table .now) (c .before .before .before .before .before .before .before .before .form-of .ensures) (c .before .before .before .before .before .if1 .left) (c .before .before .before .judged .ensures)
+    (λ z. absurd (omega (arith, c .before .if2 .taken))) (c .refused2 .ensures)
 
 slice-aggregate-write : tie.Need-slice-aggregate-write
 slice-aggregate-write c = search needs

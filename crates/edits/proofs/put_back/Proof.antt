@@ -1,4 +1,5 @@
 -- `edits::put_back` meets its contract. Assumes nothing.
+use native.Mathlib.Omega.{arith}
 use borrow.Author.Needs.{needs}
 use Rattle.edits.specs.Written.{Putting, putting-begin, putting-turn, putting-out}
 use Prim.Native.Nat.{_-_}
@@ -33,7 +34,10 @@ loop-less : tie.Need-loop-less Inv-loop μ-loop
 loop-less c = search needs
 
 loop-again : tie.Need-loop-again Inv-loop μ-loop
-loop-again c = search putting-turn
+loop-again c =
+    let l = c .before .before in
+    let a = l .before .args in
+    putting-turn (a .doc .now) (a .new .now) (a .at) (a .end) _ (l .loop .i) (omega arith) (omega arith) (l .loop .inv) (omega arith)
 
 same-length : tie.Need-same-length Inv-loop μ-loop
 same-length c = search needs

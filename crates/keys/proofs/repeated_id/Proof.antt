@@ -1,6 +1,7 @@
 -- `keys::repeated_id` meets its contract. The invariants are `Looking` and, of the inner loop, `Comparing`; the measures are how many
 -- keys are left. Assumes nothing.
 use Prim.Native.Nat.{_-_}
+use native.Mathlib.Omega.{arith}
 use borrow.Author.Needs.{needs}
 use Rattle.keys.specs.Compare.{Looking, Comparing, compare-none, compare-more, look-none, look-end, look-more, look-found}
 use Rattle.keys.proofs.repeated_id.Statement.{statement}
@@ -49,7 +50,9 @@ loop-less : tie.Need-loop-less Inv-loop μ-loop Inv-ids μ-ids
 loop-less c = search needs
 
 loop-again : tie.Need-loop-again Inv-loop μ-loop Inv-ids μ-ids
-loop-again c = search compare-more
+loop-again c =
+    let l = c .before .before .before in
+    compare-more _ (l .loop .inv) (omega arith) (c .if1 .left)
 
 add-i : tie.Need-add-i Inv-loop μ-loop Inv-ids μ-ids
 add-i c = search needs

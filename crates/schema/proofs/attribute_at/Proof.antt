@@ -11,7 +11,7 @@ no-attribute-requires : tie.Need-no-attribute-requires
 no-attribute-requires c κs = search needs
 
 returns : tie.Need-returns
-returns c = search attribute-number
+returns c = search (attribute-number, needs)
 
 number-in-requires-2 : tie.Need-number-in-requires-2
 number-in-requires-2 c κs = search needs

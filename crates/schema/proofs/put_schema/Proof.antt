@@ -1,4 +1,5 @@
 -- `schema::put_schema` meets its contract: one law for each way out. Assumes nothing.
+use native.Mathlib.Omega.{arith}
 use borrow.Author.Needs.{needs}
 use Rattle.schema.specs.Whole.{schema-count, count-some, count-few, schema-root, root-within, head-put, head-first, head-second, head-kept, head-count, head-root, schema-elements, schema-leftover, schema-put}
 use Rattle.schema.proofs.put_schema.Statement.{statement}
@@ -8,7 +9,7 @@ number-in-requires : tie.Need-number-in-requires
 number-in-requires c κs = search needs
 
 returns : tie.Need-returns
-returns c = search schema-count
+returns c = search (schema-count, needs)
 
 sub-number-in : tie.Need-sub-number-in
 sub-number-in c = search (count-some, needs)
@@ -17,7 +18,9 @@ number-in-requires-2 : tie.Need-number-in-requires-2
 number-in-requires-2 c κs = search needs
 
 returns-2 : tie.Need-returns-2
-returns-2 c = search schema-root
+returns-2 c =
+    let s = c .before .before .before .before .before .before .before .before .before in
+    schema-root (s .args .file .now) (c .before .before .before .before .before .before .number-in .ensures) (c .before .before .before .before .if1 .left) _ (c .before .before .number-in2 .ensures) (omega arith) _ (c .if2 .taken)
 
 cast-table : tie.Need-cast-table
 cast-table c = search needs
@@ -32,7 +35,11 @@ slice-write-table-2 : tie.Need-slice-write-table-2
 slice-write-table-2 c = search head-second
 
 put-elements-requires : tie.Need-put-elements-requires
-put-elements-requires c κs = search (root-within, count-few, head-put)
+put-elements-requires c κs =
+    let s = c .before .before .before .before .before .before .before .before .before .before .before .before in
+    let p = c .before .before .before .before .before .before .before .before .before .number-in .ensures in
+    let z = c .before .before .before .before .before .before .before .if1 .left in
+    (root-within (s .args .file .now) p z _ (c .before .before .before .before .before .number-in2 .ensures) (c .before .before .before .if2 .left), count-few (s .args .file .now) p z, head-put _ _ (s .pre))
 
 same-length : tie.Need-same-length
 same-length c = search head-kept

@@ -1,0 +1,48 @@
+//! The five calls and their answers, as every contender of the benchmark offers them.
+
+#[repr(C)]
+#[derive(Clone, Copy, Debug, PartialEq, Eq)]
+pub struct Count {
+    pub number: u32,
+    pub count: u32,
+}
+
+#[repr(C)]
+#[derive(Clone, Copy, Debug, PartialEq, Eq)]
+pub struct Verdict {
+    pub number: u32,
+    pub place: u32,
+}
+
+#[repr(C)]
+#[derive(Clone, Copy, Debug, PartialEq, Eq)]
+pub struct Answer {
+    pub number: u32,
+    pub place: u32,
+    pub used: u64,
+    pub change: i32,
+}
+
+pub const INSERT: u32 = 1;
+pub const REMOVE: u32 = 2;
+pub const REPLACE: u32 = 3;
+pub const SET: u32 = 4;
+pub const DROP: u32 = 5;
+
+/// An edit as it is handed to a call.
+#[derive(Clone, Debug)]
+pub struct Edit {
+    pub operation: u32,
+    pub place: u64,
+    pub piece: Vec<u32>,
+}
+
+/// What the core and the plain version both do. A buffer is the whole slice; `used` says how much of it is the document.
+pub trait Calls {
+    fn name(&self) -> &'static str;
+    fn read(&self, file: &[u8], tokens: &mut [u32]) -> Count;
+    fn write(&self, tokens: &[u32], file: &mut [u8]) -> Count;
+    fn translate(&self, file: &[u8], table: &mut [u64]) -> u32;
+    fn check(&self, table: &[u64], buffer: &[u32], used: u64) -> Verdict;
+    fn edit(&self, table: &[u64], buffer: &mut [u32], used: u64, operation: u32, place: u64, piece: &[u32]) -> Answer;
+}

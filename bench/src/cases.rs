@@ -1,0 +1,245 @@
+//! What is timed: inputs, how each contender runs them, and whether the contenders agree.
+
+use bench::calls::{Answer, Calls, Count, Edit, Verdict};
+use bench::plain::WORDS;
+use std::rc::Rc;
+
+#[cfg(feature = "libxml2")]
+use crate::libxml2;
+use crate::timing::{from_outside, repeat, repeat_pair, Job};
+
+/// One input. Tables are shared; a buffer is the document and the places after it.
+#[cfg_attr(not(feature = "libxml2"), allow(dead_code))]
+pub enum Input {
+    /// A check that answers `number`. `text`: the same document as XML, where libxml2 is to judge it too.
+    Check {
+        table: Rc<Vec<u64>>,
+        buffer: Vec<u32>,
+        used: u64,
+        number: u32,
+        text: Option<String>,
+    },
+    /// An edit that is done and the one that takes it back. `texts`: the document after each of them.
+    Pair {
+        table: Rc<Vec<u64>>,
+        buffer: Vec<u32>,
+        used: u64,
+        edit: Edit,
+        back: Edit,
+        texts: [String; 2],
+    },
+    /// An edit that is refused.
+    Refused {
+        table: Rc<Vec<u64>>,
+        buffer: Vec<u32>,
+        used: u64,
+        edit: Edit,
+        number: u32,
+    },
+    Read {
+        file: Vec<u8>,
+        tokens: usize,
+    },
+    Write {
+        tokens: Vec<u32>,
+    },
+    Translate {
+        file: Vec<u8>,
+    },
+    /// From the files of schema and document to a judged document: translate, read and check; `text` is both as XML.
+    Load {
+        schema: Vec<u8>,
+        file: Vec<u8>,
+        tokens: usize,
+        text: String,
+    },
+}
+
+/// Everything that a run of an input leaves: answers and lent memory.
+#[derive(PartialEq, Eq, Debug, Default)]
+struct Outcome {
+    numbers: Vec<u32>,
+    counts: Vec<Count>,
+    verdicts: Vec<Verdict>,
+    answers: Vec<Answer>,
+    tokens: Vec<Vec<u32>>,
+    bytes: Vec<u8>,
+    table: Vec<u64>,
+}
+
+fn edit(calls: &dyn Calls, table: &[u64], buffer: &mut [u32], used: u64, edit: &Edit) -> Answer {
+    calls.edit(table, buffer, used, edit.operation, edit.place, from_outside(&edit.piece[..]))
+}
+
+impl Input {
+    /// Every contender gives the same answers and leaves the same memory, and the answer is the one expected.
+    pub fn agree(&self, contenders: &[&dyn Calls]) -> Result<(), String> {
+        let outcome = self.outcome(contenders[0])?;
+        for other in &contenders[1..] {
+            if self.outcome(*other)? != outcome {
+                return Err(format!("{} and {} differ", contenders[0].name(), other.name()));
+            }
+        }
+        self.agree_with_libxml2()
+    }
+
+    #[cfg(feature = "libxml2")]
+    fn agree_with_libxml2(&self) -> Result<(), String> {
+        let agrees = match self {
+            Input::Check { text: Some(text), number, .. } => libxml2::Tree::parse(text).is_valid() == (*number == 0),
+            Input::Pair { texts, .. } => texts.iter().all(|text| libxml2::Tree::parse(text).is_valid()),
+            Input::Load { text, .. } => libxml2::load(text),
+            _ => true,
+        };
+        if agrees {
+            Ok(())
+        } else {
+            Err("libxml2 judges the document otherwise".to_string())
+        }
+    }
+
+    #[cfg(not(feature = "libxml2"))]
+    fn agree_with_libxml2(&self) -> Result<(), String> {
+        Ok(())
+    }
+
+    fn outcome(&self, calls: &dyn Calls) -> Result<Outcome, String> {
+        let mut outcome = Outcome::default();
+        let expected = match self {
+            Input::Check { table, buffer, used, number, .. } => {
+                outcome.verdicts.push(calls.check(table, buffer, *used));
+                outcome.verdicts[0].number == *number
+            }
+            Input::Pair { table, buffer, used, edit: there, back, .. } => {
+                let mut lent = buffer.clone();
+                let done = edit(calls, table, &mut lent, *used, there);
+                outcome.tokens.push(lent.clone());
+                let undone = edit(calls, table, &mut lent, done.used, back);
+                outcome.answers.extend([done, undone]);
+                outcome.tokens.push(lent);
+                done.number == 0 && undone.number == 0 && outcome.tokens[1] == *buffer
+            }
+            Input::Refused { table, buffer, used, edit: refused, number } => {
+                let mut lent = buffer.clone();
+                outcome.answers.push(edit(calls, table, &mut lent, *used, refused));
+                outcome.tokens.push(lent);
+                outcome.answers[0].number == *number && outcome.tokens[0] == *buffer
+            }
+            Input::Read { file, tokens } => {
+                let mut lent = vec![7; tokens + 3];
+                outcome.counts.push(calls.read(file, &mut lent));
+                outcome.tokens.push(lent);
+                outcome.counts[0] == Count { number: 0, count: *tokens as u32 }
+            }
+            Input::Write { tokens } => {
+                let mut lent = vec![7; 3 * tokens.len() + 3];
+                outcome.counts.push(calls.write(tokens, &mut lent));
+                outcome.bytes = lent;
+                outcome.counts[0].number == 0
+            }
+            Input::Translate { file } => {
+                let mut lent = vec![7; WORDS];
+                outcome.numbers.push(calls.translate(file, &mut lent));
+                outcome.table = lent;
+                outcome.numbers[0] == 0
+            }
+            Input::Load { schema, file, tokens, .. } => {
+                let (mut table, mut buffer) = (vec![7; WORDS], vec![7; *tokens]);
+                outcome.verdicts.push(load(calls, schema, file, &mut table, &mut buffer));
+                outcome.table = table;
+                outcome.tokens.push(buffer);
+                outcome.verdicts[0].number == 0
+            }
+        };
+        if expected {
+            Ok(outcome)
+        } else {
+            Err(format!("{} gives an answer that is not the one expected: {:?}", calls.name(), outcome.summary()))
+        }
+    }
+
+    /// The input as a job of a contender.
+    pub fn job<'a>(&'a self, calls: &'a dyn Calls) -> Job<'a> {
+        match self {
+            Input::Check { table, buffer, used, number, .. } => Box::new(move |count| {
+                repeat(count, || assert_eq!(calls.check(from_outside(&table[..]), from_outside(&buffer[..]), *used).number, *number))
+            }),
+            Input::Pair { table, buffer, used, edit: there, back, .. } => {
+                let mut state = (buffer.clone(), *used);
+                let step = move |(buffer, used): &mut (Vec<u32>, u64), step: &Edit| {
+                    let answer = edit(calls, from_outside(&table[..]), buffer, *used, step);
+                    assert_eq!(answer.number, 0);
+                    *used = answer.used;
+                };
+                Box::new(move |count| repeat_pair(count, &mut state, |state| step(state, there), |state| step(state, back)))
+            }
+            Input::Refused { table, buffer, used, edit: refused, number } => {
+                let mut buffer = buffer.clone();
+                Box::new(move |count| {
+                    repeat(count, || {
+                        assert_eq!(edit(calls, from_outside(&table[..]), &mut buffer, *used, refused).number, *number);
+                    })
+                })
+            }
+            Input::Read { file, tokens } => {
+                let mut lent = vec![0; *tokens];
+                Box::new(move |count| repeat(count, || assert_eq!(calls.read(from_outside(&file[..]), &mut lent).number, 0)))
+            }
+            Input::Write { tokens } => {
+                let mut lent = vec![0; 3 * tokens.len()];
+                Box::new(move |count| repeat(count, || assert_eq!(calls.write(from_outside(&tokens[..]), &mut lent).number, 0)))
+            }
+            Input::Translate { file } => {
+                let mut lent = vec![0; WORDS];
+                Box::new(move |count| repeat(count, || assert_eq!(calls.translate(from_outside(&file[..]), &mut lent), 0)))
+            }
+            Input::Load { schema, file, tokens, .. } => {
+                let (mut table, mut buffer) = (vec![0; WORDS], vec![0; *tokens]);
+                Box::new(move |count| {
+                    repeat(count, || assert_eq!(load(calls, from_outside(&schema[..]), file, &mut table, &mut buffer).number, 0))
+                })
+            }
+        }
+    }
+
+    /// The input as a job of libxml2, where there is a counterpart.
+    #[cfg(feature = "libxml2")]
+    pub fn libxml2_job(&self) -> Option<Job<'_>> {
+        match self {
+            Input::Check { text: Some(text), number, .. } => {
+                let tree = libxml2::Tree::parse(text);
+                Some(Box::new(move |count| repeat(count, || assert_eq!(tree.is_valid(), *number == 0))))
+            }
+            Input::Pair { texts: [there, back], .. } => {
+                let mut trees = [libxml2::Tree::parse(there), libxml2::Tree::parse(back)];
+                let step = |trees: &mut [libxml2::Tree; 2], k: usize| assert!(trees[k].is_valid());
+                Some(Box::new(move |count| repeat_pair(count, &mut trees, |trees| step(trees, 0), |trees| step(trees, 1))))
+            }
+            Input::Load { text, .. } => Some(Box::new(move |count| repeat(count, || assert!(libxml2::load(text))))),
+            _ => None,
+        }
+    }
+
+    #[cfg(not(feature = "libxml2"))]
+    pub fn libxml2_job(&self) -> Option<Job<'_>> {
+        None
+    }
+}
+
+impl Outcome {
+    fn summary(&self) -> (&[u32], &[Count], &[Verdict], &[Answer]) {
+        (&self.numbers, &self.counts, &self.verdicts, &self.answers)
+    }
+}
+
+fn load(calls: &dyn Calls, schema: &[u8], file: &[u8], table: &mut [u64], buffer: &mut [u32]) -> Verdict {
+    let number = calls.translate(schema, table);
+    if number != 0 {
+        return Verdict { number, place: 0 };
+    }
+    let read = calls.read(file, buffer);
+    if read.number != 0 {
+        return Verdict { number: read.number, place: 0 };
+    }
+    calls.check(table, buffer, u64::from(read.count))
+}

@@ -1,0 +1,129 @@
+//! Calls drawn by chance from small documents of every mix: the contenders must agree on them too, refusals included.
+
+use bench::calls::{Calls, Edit};
+use bench::documents::{file, Dice, Mix, MIXES};
+use bench::plain::WORDS;
+
+const TOKENS: usize = 420;
+
+/// Runs `count` rounds of calls for each mix. The count of calls, or what differs.
+pub fn agree(contenders: &[&dyn Calls], count: u32) -> Result<u64, String> {
+    let mut calls = 0;
+    for (k, &mix) in MIXES.iter().enumerate() {
+        let mut dice = Dice::new(k as u64 + 7);
+        for round in 0..count {
+            agree_once(contenders, mix, &mut dice).map_err(|what| format!("{}, round {}: {}", mix.name(), round, what))?;
+            calls += 5;
+        }
+    }
+    Ok(calls)
+}
+
+/// The same from all contenders.
+fn same<T: PartialEq>(what: &str, contenders: &[&dyn Calls], run: impl Fn(&dyn Calls) -> T) -> Result<T, String> {
+    let first = run(contenders[0]);
+    for other in &contenders[1..] {
+        if run(*other) != first {
+            return Err(format!("{}: {} and {} differ", what, contenders[0].name(), other.name()));
+        }
+    }
+    Ok(first)
+}
+
+fn agree_once(contenders: &[&dyn Calls], mix: Mix, dice: &mut Dice) -> Result<(), String> {
+    let mut schema = file(&mix.schema());
+    let mut table = vec![0; WORDS];
+    contenders[0].translate(&schema, &mut table);
+    if dice.below(4) == 0 {
+        let word = if dice.below(2) == 0 { dice.below(2 + 5 * 138) } else { dice.below(WORDS as u32) };
+        table[word as usize] ^= 1 << dice.below(64);
+    }
+    disturb(&mut schema, dice, |byte, dice| *byte = dice.below(256) as u8);
+    same("translate", contenders, |calls| {
+        let mut lent = vec![7; WORDS];
+        (calls.translate(&schema, &mut lent), lent)
+    })?;
+
+    let mut tokens = mix.document(TOKENS);
+    if dice.below(3) > 0 {
+        disturb(&mut tokens, dice, |token, dice| match dice.below(3) {
+            0 => *token = dice.below(45 * 8),
+            1 => *token = (*token & 7) | dice.below(45) << 3,
+            _ => *token ^= 1 << dice.below(32),
+        });
+    }
+    let used = tokens.len() as u64;
+    same("check", contenders, |calls| calls.check(&table, &tokens, used))?;
+
+    let mut buffer = tokens.clone();
+    buffer.resize(tokens.len() + dice.below(12) as usize, 7);
+    let edit = any_edit(&tokens, dice);
+    same("edit", contenders, |calls| {
+        let mut lent = buffer.clone();
+        (calls.edit(&table, &mut lent, used, edit.operation, edit.place, &edit.piece), lent)
+    })?;
+
+    let mut bytes = file(&tokens);
+    disturb(&mut bytes, dice, |byte, dice| *byte = dice.below(256) as u8);
+    let room = TOKENS - 2 + dice.below(8) as usize;
+    same("read", contenders, |calls| {
+        let mut lent = vec![7; room];
+        (calls.read(&bytes, &mut lent), lent)
+    })?;
+
+    let room = file(&tokens).len() + dice.below(4) as usize - 2;
+    same("write", contenders, |calls| {
+        let mut lent = vec![7; room];
+        (calls.write(&tokens, &mut lent), lent)
+    })?;
+    Ok(())
+}
+
+/// Changes, cuts out or doubles an entry, a few times or not at all.
+fn disturb<T: Copy>(list: &mut Vec<T>, dice: &mut Dice, change: impl Fn(&mut T, &mut Dice)) {
+    for _ in 0..dice.below(3) {
+        let at = dice.below(list.len() as u32) as usize;
+        match dice.below(4) {
+            0 => drop(list.remove(at)),
+            1 => list.insert(at, list[at]),
+            _ => change(&mut list[at], dice),
+        }
+    }
+}
+
+fn any_edit(tokens: &[u32], dice: &mut Dice) -> Edit {
+    let length = tokens.len() as u32;
+    let operation = dice.below(32) % 6;
+    let place = dice.below(length + 3);
+    let from = dice.below(length) as usize;
+    let attribute = dice.below(4) * 8 + 4;
+    let mut piece = match operation {
+        1 | 3 if dice.below(4) == 0 => vec![dice.below(100) * 8 + 3],
+        1 | 3 => item(tokens, from),
+        4 => vec![attribute, dice.below(65_536) * 8 + 5],
+        5 => vec![attribute],
+        _ => vec![],
+    };
+    if dice.below(8) == 0 {
+        piece.push(dice.below(45 * 8));
+    }
+    if dice.below(8) == 0 && !piece.is_empty() {
+        let at = dice.below(piece.len() as u32) as usize;
+        piece[at] = (piece[at] & 7) | dice.below(45) << 3;
+    }
+    Edit { operation, place: u64::from(place), piece }
+}
+
+/// The element that starts at the place, else the token there.
+fn item(tokens: &[u32], from: usize) -> Vec<u32> {
+    let mut open = 0;
+    let mut piece = Vec::new();
+    for &token in &tokens[from..] {
+        open += i32::from(token & 7 == 1) - i32::from(token & 7 == 2);
+        piece.push(token);
+        if open <= 0 {
+            break;
+        }
+    }
+    piece
+}

@@ -1,0 +1,64 @@
+//! The inputs are what they are said to be, by the plain version.
+
+use super::{dense_schema, file, with_last_element_wrong, with_other_root, MIXES, SMALL_SHADE, SPOTS};
+use crate::calls::Calls;
+use crate::plain::{Keys, Plain, WORDS};
+
+const PLAIN: Plain = Plain { keys: Keys::Pairs };
+const SIZES: [usize; 6] = [500, 1000, 2000, 4000, 8184, 8192];
+
+fn table(schema: &[u32]) -> Vec<u64> {
+    let mut table = vec![0; WORDS];
+    assert_eq!(PLAIN.translate(&file(schema), &mut table), 0);
+    table
+}
+
+#[test]
+fn schemas_are_taken() {
+    table(&SMALL_SHADE);
+    let dense = table(&dense_schema());
+    assert!((0..48).all(|element| dense[2 + element * 138 + 6] == 64));
+    assert!(file(&dense_schema()).len() <= 65_536);
+}
+
+#[test]
+fn documents_are_valid_and_refused_where_they_should_be() {
+    for mix in MIXES {
+        let table = table(&mix.schema());
+        for size in SIZES {
+            let tokens = mix.document(size);
+            let answer = |tokens: &[u32]| PLAIN.check(&table, tokens, size as u64);
+            assert_eq!(answer(&tokens).number, 0, "{} {}", mix.name(), size);
+            assert_eq!(answer(&with_other_root(&tokens)).number, 10);
+            let wrong = answer(&with_last_element_wrong(&tokens));
+            assert_eq!(wrong.number, 8);
+            assert!(tokens[wrong.place as usize + 1..].iter().all(|token| token & 7 != 1));
+        }
+    }
+}
+
+#[test]
+fn edits_are_done_and_taken_back() {
+    for mix in MIXES {
+        let table = table(&mix.schema());
+        let mut buffer = mix.document(8184);
+        buffer.resize(8192, 0);
+        let before = buffer.clone();
+        for spot in SPOTS {
+            for pair in mix.pairs(&buffer[..8184], spot) {
+                let (edit, back) = (pair.edit, pair.back);
+                let done = PLAIN.edit(&table, &mut buffer, 8184, edit.operation, edit.place, &edit.piece);
+                assert_eq!(done.number, 0, "{} {}", mix.name(), pair.name);
+                let undone = PLAIN.edit(&table, &mut buffer, done.used, back.operation, back.place, &back.piece);
+                assert_eq!((undone.number, undone.used), (0, 8184), "{} {}", mix.name(), pair.back_name);
+                assert_eq!(buffer, before);
+            }
+            for refused in mix.refused_inserts(&buffer[..8184], spot) {
+                let room = if refused.is_full { 8184 } else { 8192 };
+                let edit = refused.edit;
+                let answer = PLAIN.edit(&table, &mut buffer[..room], 8184, edit.operation, edit.place, &edit.piece);
+                assert_eq!(answer.number, refused.number, "{} {}", mix.name(), refused.after);
+            }
+        }
+    }
+}

@@ -1,0 +1,279 @@
+//! `bench [--samples N] FOLDER`: makes the inputs, sees that all contenders agree on them, times them, prints the tables and writes
+//! FOLDER/table.md and FOLDER/cost.svg.
+
+mod cases;
+mod chance;
+#[cfg(feature = "libxml2")]
+mod libxml2;
+mod plot;
+mod report;
+mod shrikemuff;
+mod timing;
+
+use bench::calls::{Calls, Edit};
+use bench::documents::{self, Mix, MIXES, SPOTS};
+use bench::plain::{Keys, Plain, WORDS};
+use bench::xml;
+use cases::Input;
+use report::{grouped, Report, Row, Section, SIZES};
+use std::path::PathBuf;
+use std::rc::Rc;
+use std::time::Duration;
+use timing::Plan;
+
+/// The documents that are edited: an insert still fits into 8,192.
+const EDIT_TOKENS: usize = 8184;
+const ROOM: usize = 8192;
+/// The sizes of the plot beside those of the table.
+const MORE_SIZES: [usize; 3] = [500, 2000, 6000];
+/// Rounds of calls by chance for each mix.
+const ROUNDS: u32 = 2000;
+
+/// An input, and the rows it gives: one, or two for an edit and the one that takes it back.
+struct Case {
+    rows: Vec<Row>,
+    input: Input,
+}
+
+impl Case {
+    fn new(section: Section, mix: &'static str, what: &str, tokens: usize, input: Input) -> Case {
+        let row = Row { section, mix, what: what.to_string(), spot: "", tokens, times: [None; 4] };
+        Case { rows: vec![row], input }
+    }
+}
+
+fn main() {
+    let (plan, folder) = arguments();
+    #[cfg(feature = "libxml2")]
+    libxml2::begin();
+    let contenders: [&dyn Calls; 3] = [&shrikemuff::Core, &Plain { keys: Keys::Pairs }, &Plain { keys: Keys::Field }];
+
+    let mut groups: Vec<Vec<Case>> = MIXES.iter().map(|&mix| cases_of(mix)).collect();
+    groups.push(cases_of_files());
+    let mut inputs = 0;
+    for case in groups.iter().flatten() {
+        if let Err(what) = case.input.agree(&contenders) {
+            stop(&format!("{}, {}, {} tokens: {}", case.rows[0].mix, case.rows[0].what, case.rows[0].tokens, what));
+        }
+        inputs += 1;
+    }
+    let by_chance = chance::agree(&contenders, ROUNDS).unwrap_or_else(|what| stop(&what));
+    eprintln!("all agree on {} inputs and on {} calls by chance", inputs, by_chance);
+
+    for group in &mut groups {
+        time(group, &contenders, &plan);
+        eprintln!("timed: {}", group[0].rows[0].mix);
+    }
+    let rows: Vec<Row> = groups.into_iter().flatten().flat_map(|case| case.rows).collect();
+    let report = Report { rows: &rows, edit_tokens: EDIT_TOKENS };
+    let text = format!("{}{}", report.text(), method(&plan, &report, inputs, by_chance));
+    print!("{}", text);
+    write(&folder.join("table.md"), &text);
+    write(&folder.join("cost.svg"), &plot::svg(&report));
+}
+
+fn arguments() -> (Plan, PathBuf) {
+    let mut plan = Plan { samples: 61, sample: Duration::from_millis(1) };
+    let mut folder = None;
+    let mut arguments = std::env::args().skip(1);
+    while let Some(argument) = arguments.next() {
+        if argument == "--samples" {
+            let samples = arguments.next().and_then(|count| count.parse().ok());
+            plan.samples = samples.filter(|&count| count > 0).unwrap_or_else(|| stop("--samples takes a number"));
+        } else {
+            folder = Some(PathBuf::from(argument));
+        }
+    }
+    (plan, folder.unwrap_or_else(|| stop("a folder to write to is wanted")))
+}
+
+fn stop(what: &str) -> ! {
+    eprintln!("bench: {}", what);
+    std::process::exit(1)
+}
+
+fn write(path: &std::path::Path, text: &str) {
+    if let Err(error) = std::fs::write(path, text) {
+        stop(&format!("{}: {}", path.display(), error));
+    }
+}
+
+/// The checks, the parts of a check, the edits and the parts of an edit.
+fn cases_of(mix: Mix) -> Vec<Case> {
+    let name = mix.name();
+    let table = Rc::new(table_of(&mix.schema()));
+    let doctype = xml::doctype(&mix.schema());
+    let text_of = |tokens: &[u32]| doctype.clone() + &xml::document(tokens);
+    let check = |tokens: &[u32], used: usize, number| {
+        let text = if used > 0 { Some(text_of(tokens)) } else { None };
+        let mut buffer = tokens.to_vec();
+        buffer.resize(ROOM, 0);
+        Input::Check { table: table.clone(), buffer, used: used as u64, number, text }
+    };
+    let mut cases = Vec::new();
+
+    for size in SIZES.into_iter().chain(MORE_SIZES).chain([EDIT_TOKENS]) {
+        cases.push(Case::new(Section::Check, name, "check", size, check(&mix.document(size), size, 0)));
+    }
+
+    let tokens = mix.document(EDIT_TOKENS);
+    let mut buffer = tokens.clone();
+    buffer.resize(ROOM, 0);
+    let no_operation = Edit { operation: 0, place: 0, piece: vec![] };
+    let no_edit = Input::Refused { table: table.clone(), buffer: buffer.clone(), used: EDIT_TOKENS as u64, edit: no_operation, number: 6 };
+    let parts = [
+        ("table", check(&tokens, 0, 4)),
+        ("shape", no_edit),
+        ("root's name", check(&documents::with_other_root(&tokens), EDIT_TOKENS, 10)),
+        ("elements", check(&documents::with_last_element_wrong(&tokens), EDIT_TOKENS, 8)),
+    ];
+    for (what, input) in parts {
+        cases.push(Case::new(Section::CheckPart, name, what, EDIT_TOKENS, input));
+    }
+
+    for spot in SPOTS {
+        for pair in mix.pairs(&tokens, spot) {
+            let row = |what: &str| Row {
+                section: Section::Edit,
+                mix: name,
+                what: what.to_string(),
+                spot: spot.name(),
+                tokens: EDIT_TOKENS,
+                times: [None; 4],
+            };
+            let rows = if pair.name == pair.back_name { vec![row(pair.name)] } else { vec![row(pair.name), row(pair.back_name)] };
+            let texts = [text_of(&edited(&table, &buffer, &pair.edit)), text_of(&tokens)];
+            let input = Input::Pair {
+                table: table.clone(),
+                buffer: buffer.clone(),
+                used: EDIT_TOKENS as u64,
+                edit: pair.edit,
+                back: pair.back,
+                texts,
+            };
+            cases.push(Case { rows, input });
+        }
+        for refused in mix.refused_inserts(&tokens, spot) {
+            let input = Input::Refused {
+                table: table.clone(),
+                buffer: if refused.is_full { tokens.clone() } else { buffer.clone() },
+                used: EDIT_TOKENS as u64,
+                edit: refused.edit,
+                number: refused.number,
+            };
+            let mut case = Case::new(Section::EditPart, name, refused.after, EDIT_TOKENS, input);
+            case.rows[0].spot = spot.name();
+            cases.push(case);
+        }
+    }
+    cases
+}
+
+/// The used tokens after an edit that is done, by the plain version.
+fn edited(table: &[u64], buffer: &[u32], edit: &Edit) -> Vec<u32> {
+    let mut lent = buffer.to_vec();
+    let answer = Plain { keys: Keys::Field }.edit(table, &mut lent, EDIT_TOKENS as u64, edit.operation, edit.place, &edit.piece);
+    if answer.number != 0 {
+        stop("the plain version refuses an edit that is to be done");
+    }
+    lent.truncate(answer.used as usize);
+    lent
+}
+
+fn table_of(schema: &[u32]) -> Vec<u64> {
+    let mut table = vec![0; WORDS];
+    if (Plain { keys: Keys::Field }).translate(&documents::file(schema), &mut table) != 0 {
+        stop("the plain version refuses a schema");
+    }
+    table
+}
+
+fn cases_of_files() -> Vec<Case> {
+    let mut cases = Vec::new();
+    let translate =
+        |name, schema: &[u32]| Case::new(Section::File, name, "translate", 0, Input::Translate { file: documents::file(schema) });
+    cases.push(translate("small shade", &documents::SMALL_SHADE));
+    cases.push(translate("schema at the limits", &documents::dense_schema()));
+    let dense = Input::Check { table: Rc::new(table_of(&documents::dense_schema())), buffer: vec![0; 2], used: 0, number: 4, text: None };
+    cases.push(Case::new(Section::File, "schema at the limits", "test of the table alone", 0, dense));
+    let mix = Mix::FewIds;
+    for size in SIZES {
+        let tokens = mix.document(size);
+        let file = documents::file(&tokens);
+        cases.push(Case::new(Section::File, mix.name(), "read", size, Input::Read { file, tokens: size }));
+    }
+    for size in SIZES {
+        cases.push(Case::new(Section::File, mix.name(), "write", size, Input::Write { tokens: mix.document(size) }));
+    }
+    for mix in MIXES {
+        for size in SIZES {
+            let tokens = mix.document(size);
+            let input = Input::Load {
+                schema: documents::file(&mix.schema()),
+                file: documents::file(&tokens),
+                tokens: size,
+                text: xml::doctype(&mix.schema()) + &xml::document(&tokens),
+            };
+            cases.push(Case::new(Section::File, mix.name(), "load", size, input));
+        }
+    }
+    cases
+}
+
+/// Times all cases of a group by all who can run them, taking turns.
+fn time(group: &mut [Case], contenders: &[&dyn Calls; 3], plan: &Plan) {
+    let mut jobs = Vec::new();
+    let mut whose = Vec::new();
+    for (case, Case { input, .. }) in group.iter().enumerate() {
+        for (who, calls) in contenders.iter().enumerate() {
+            whose.push((case, who));
+            jobs.push(input.job(*calls));
+        }
+        if let Some(job) = input.libxml2_job() {
+            whose.push((case, contenders.len()));
+            jobs.push(job);
+        }
+    }
+    let times = timing::run(&mut jobs, plan);
+    drop(jobs);
+    for ((case, who), times) in whose.into_iter().zip(times) {
+        for (row, time) in group[case].rows.iter_mut().zip(times) {
+            row.times[who] = Some(time);
+        }
+    }
+}
+
+fn method(plan: &Plan, report: &Report, inputs: usize, by_chance: u64) -> String {
+    let (spread, widest) = report.spread();
+    let mut text = String::from("## The mixes\n\n");
+    for mix in MIXES {
+        text += &format!("- {}: {}.\n", mix.name(), mix.about());
+    }
+    text += &format!(
+        "\n## How it was measured\n\n\
+         - Core: the archive's five calls through C. Plain: a straightforward safe Rust version of the same calls with the same promises \
+         (`bench/src/plain`), IDs compared in pairs; the second one marks them in a field of 65,536 bits and is the same otherwise. \
+         Both are compiled with optimisation 3; the archive is not optimised across its border.\n\
+         - Before timing, core and both plain versions gave the same answers and left the same memory on all {} inputs and on {} calls \
+         by chance{}.\n\
+         - Each time is the median of {} samples; a sample repeats the call for at least {} ms. The clock is that of the thread, which stands still while other programs run. In one round every contender takes one sample \
+         of every input of a mix, so that a drift of the machine meets all. Half of the samples lie within {:.0} % of the median \
+         for the middle row and within {:.0} % for the worst.\n\
+         - \"Near\" marks a ratio within {:.0} % of its limit: another run may find it on the other side. Ratios also move with the compiler \
+         of the plain version and with where the linker puts a short loop, those of the pairs of IDs most.\n\
+         - An edit and the one that takes it back take turns on one buffer, each timed by itself: insert and remove, set and drop, replace \
+         and replace (the first of the two is shown). All are done, none refused.\n\
+         - The documents that are edited have {} tokens, so that an insert fits into {}.\n",
+        inputs,
+        grouped(by_chance as usize),
+        if cfg!(feature = "libxml2") { ", and libxml2 found the same documents valid and invalid" } else { ". libxml2 is left out" },
+        plan.samples,
+        plan.sample.as_millis(),
+        spread * 50.0,
+        widest * 50.0,
+        report::NEAR * 100.0,
+        grouped(EDIT_TOKENS),
+        grouped(ROOM),
+    );
+    text
+}

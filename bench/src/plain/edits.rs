@@ -1,0 +1,110 @@
+//! The five edits: each is a splice, made in a scratch list, judged there and copied back.
+
+use super::judge;
+use super::keys::Keys;
+use super::shape::{self, is_token, number, sort, ATTRIBUTE, END, START, TEXT, VALUE};
+use super::table::Table;
+use super::{Fault, DEPTH, TOKENS};
+use crate::calls::{DROP, INSERT, REMOVE, REPLACE, SET};
+
+/// What an edit does: `cut` tokens from `at` on give way to `put`. `touched` is the element around it, none for the root itself.
+struct Splice<'a> {
+    at: usize,
+    cut: usize,
+    put: &'a [u32],
+    touched: Option<usize>,
+}
+
+/// The new length.
+pub fn edit(words: &[u64], buffer: &mut [u32], used: u64, operation: u32, place: u64, piece: &[u32], keys: Keys) -> Result<usize, Fault> {
+    let table = Table::proper(words).ok_or(13u32)?;
+    let tokens = shape::document(buffer, used).ok_or(4u32)?;
+    if !(INSERT..=DROP).contains(&operation) {
+        return Err(6.into());
+    }
+    if !is_piece(operation, piece) {
+        return Err(4.into());
+    }
+    let splice = plan(tokens, operation, place, piece).ok_or(6u32)?;
+    let new = tokens.len() - splice.cut + splice.put.len();
+    if new > TOKENS.min(buffer.len()) || is_too_deep(tokens, &splice) {
+        return Err(5.into());
+    }
+
+    let mut edited = Vec::with_capacity(new);
+    edited.extend_from_slice(&tokens[..splice.at]);
+    edited.extend_from_slice(splice.put);
+    edited.extend_from_slice(&tokens[splice.at + splice.cut..]);
+    let of_piece = judge::starts(&edited, splice.at, splice.at + splice.put.len());
+    judge::judge(table, &edited, splice.touched.into_iter().chain(of_piece), keys)?;
+
+    let old = tokens.len();
+    buffer[..new].copy_from_slice(&edited);
+    if new < old {
+        buffer[new..old].fill(0);
+    }
+    Ok(new)
+}
+
+fn is_piece(operation: u32, piece: &[u32]) -> bool {
+    piece.len() <= TOKENS
+        && match operation {
+            INSERT | REPLACE => is_text(piece) || shape::has_shape(piece),
+            REMOVE => piece.is_empty(),
+            SET => piece.len() > 1 && is_token(piece[0], ATTRIBUTE) && piece[1..].iter().all(|&token| is_token(token, VALUE)),
+            _ => piece.len() == 1 && is_token(piece[0], ATTRIBUTE),
+        }
+}
+
+fn is_text(piece: &[u32]) -> bool {
+    piece.len() == 1 && is_token(piece[0], TEXT)
+}
+
+/// `None` if the place is not one for this edit. The piece is good.
+fn plan<'a>(tokens: &[u32], operation: u32, place: u64, piece: &'a [u32]) -> Option<Splice<'a>> {
+    if place >= tokens.len() as u64 {
+        return None;
+    }
+    let place = place as usize;
+    let there = sort(tokens[place]);
+    match operation {
+        INSERT if place > 0 && matches!(there, START | TEXT | END) => {
+            Some(Splice { at: place, cut: 0, put: piece, touched: shape::parent(tokens, place) })
+        }
+        REMOVE if place > 0 && matches!(there, START | TEXT) => {
+            let cut = shape::item_length(tokens, place);
+            Some(Splice { at: place, cut, put: piece, touched: shape::parent(tokens, place) })
+        }
+        REPLACE if matches!(there, START | TEXT) && !(place == 0 && is_text(piece)) => {
+            let cut = shape::item_length(tokens, place);
+            Some(Splice { at: place, cut, put: piece, touched: shape::parent(tokens, place) })
+        }
+        SET if there == START => {
+            let (at, cut) = attribute(tokens, place, number(piece[0]));
+            Some(Splice { at, cut, put: piece, touched: Some(place) })
+        }
+        DROP if there == START => match attribute(tokens, place, number(piece[0])) {
+            (_, 0) => None,
+            (at, cut) => Some(Splice { at, cut, put: &[], touched: Some(place) }),
+        },
+        _ => None,
+    }
+}
+
+/// Where the attribute stands and its length with its values; where it would stand and 0 if the start has none of that number.
+fn attribute(tokens: &[u32], start: usize, wanted: u32) -> (usize, usize) {
+    let after = shape::after_attributes(tokens, start);
+    let not_before = |&place: &usize| sort(tokens[place]) == ATTRIBUTE && number(tokens[place]) >= wanted;
+    match (start + 1..after).find(not_before) {
+        Some(at) if number(tokens[at]) == wanted => {
+            let values = tokens[at + 1..].iter().take_while(|&&token| sort(token) == VALUE).count();
+            (at, 1 + values)
+        }
+        Some(at) => (at, 0),
+        None => (after, 0),
+    }
+}
+
+fn is_too_deep(tokens: &[u32], splice: &Splice) -> bool {
+    shape::depth_at(tokens, splice.at) + shape::deepest(splice.put) > DEPTH
+}

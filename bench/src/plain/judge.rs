@@ -1,0 +1,79 @@
+//! The judgement of a document, whole or at touched elements.
+
+use super::keys::{self, Keys};
+use super::shape::{self, number, sort, ATTRIBUTE, END, START, TEXT, VALUE};
+use super::table::{self, Element, Table};
+use super::Fault;
+
+pub fn check(words: &[u64], buffer: &[u32], used: u64, keys: Keys) -> Result<(), Fault> {
+    let table = Table::proper(words).ok_or(13u32)?;
+    let tokens = shape::document(buffer, used).ok_or(4u32)?;
+    judge(table, tokens, starts(tokens, 0, tokens.len()), keys)
+}
+
+/// The places of starts, rising, from `from` to before `to`.
+pub fn starts(tokens: &[u32], from: usize, to: usize) -> impl Iterator<Item = usize> + '_ {
+    (from..to).filter(move |&place| sort(tokens[place]) == START)
+}
+
+/// Judges tokens that have shape: the root's name, then the elements whose starts are given, then IDs and references.
+pub fn judge(table: Table, tokens: &[u32], touched: impl Iterator<Item = usize>, keys: Keys) -> Result<(), Fault> {
+    if number(tokens[0]) != table.root() {
+        return Err(Fault::at(10, 0));
+    }
+    let ends = shape::ends(tokens);
+    for start in touched {
+        judge_element(table, tokens, &ends, start).map_err(|number| Fault::at(number, start))?;
+    }
+    keys::judge(table, tokens, keys)
+}
+
+fn judge_element(table: Table, tokens: &[u32], ends: &[u32], start: usize) -> Result<(), u32> {
+    let element = table.element(number(tokens[start])).ok_or(7u32)?;
+    let content = judge_attributes(element, tokens, start + 1)?;
+    if has_content(element, tokens, ends, content) {
+        Ok(())
+    } else {
+        Err(9)
+    }
+}
+
+/// The place after the attributes, if they are good.
+fn judge_attributes(element: Element, tokens: &[u32], mut at: usize) -> Result<usize, u32> {
+    let mut present = 0;
+    while sort(tokens[at]) == ATTRIBUTE {
+        let attribute = number(tokens[at]);
+        if attribute > 63 || element.allowed() >> attribute & 1 == 0 {
+            return Err(8);
+        }
+        present |= 1u64 << attribute;
+        let values = tokens[at + 1..].iter().take_while(|&&token| sort(token) == VALUE).count();
+        if values > 1 && element.idrefs() >> attribute & 1 == 0 {
+            return Err(8);
+        }
+        at += 1 + values;
+    }
+    if element.required() & !present == 0 {
+        Ok(at)
+    } else {
+        Err(8)
+    }
+}
+
+/// `at` is the place of the first child, text, or the element's end.
+fn has_content(element: Element, tokens: &[u32], ends: &[u32], mut at: usize) -> bool {
+    match element.kind() {
+        table::EMPTY => sort(tokens[at]) == END,
+        table::TEXT => sort(tokens[at]) == TEXT && sort(tokens[at + 1]) == END,
+        _ => {
+            let mut run = element.run();
+            while sort(tokens[at]) == START {
+                if !run.step(number(tokens[at])) {
+                    return false;
+                }
+                at = ends[at] as usize + 1;
+            }
+            sort(tokens[at]) == END && run.may_end()
+        }
+    }
+}

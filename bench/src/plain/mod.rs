@@ -1,0 +1,105 @@
+//! The straightforward version: the paper's five calls in safe Rust, as one writes them without proofs.
+//!
+//! It promises what the core promises. It trusts no caller: table and shape are tested at each call. It judges in the paper's
+//! order. A refusal leaves lent memory as it was.
+//!
+//! There are two of it, which differ in one thing: how an ID met twice is found (`Keys`).
+
+mod edits;
+mod judge;
+mod keys;
+mod model;
+mod numbers;
+mod schema;
+mod shape;
+mod table;
+
+use crate::calls::{Answer, Calls, Count, Verdict};
+pub use keys::Keys;
+pub use table::WORDS;
+
+/// Most tokens of a document or a piece.
+pub const TOKENS: usize = 8192;
+/// Most elements inside one another.
+pub const DEPTH: usize = 64;
+
+pub struct Plain {
+    pub keys: Keys,
+}
+
+impl Calls for Plain {
+    fn name(&self) -> &'static str {
+        match self.keys {
+            Keys::Pairs => "plain",
+            Keys::Field => "plain, bit field",
+        }
+    }
+
+    #[inline(never)]
+    fn read(&self, file: &[u8], tokens: &mut [u32]) -> Count {
+        numbers::read_document(file, tokens)
+    }
+
+    #[inline(never)]
+    fn write(&self, tokens: &[u32], file: &mut [u8]) -> Count {
+        numbers::write_document(tokens, file)
+    }
+
+    #[inline(never)]
+    fn translate(&self, file: &[u8], table: &mut [u64]) -> u32 {
+        match schema::translate(file, table) {
+            Ok(()) => 0,
+            Err(number) => number,
+        }
+    }
+
+    #[inline(never)]
+    fn check(&self, table: &[u64], buffer: &[u32], used: u64) -> Verdict {
+        match judge::check(table, buffer, used, self.keys) {
+            Ok(()) => Verdict { number: 0, place: 0 },
+            Err(fault) => Verdict { number: fault.number, place: fault.place },
+        }
+    }
+
+    #[inline(never)]
+    fn edit(&self, table: &[u64], buffer: &mut [u32], used: u64, operation: u32, place: u64, piece: &[u32]) -> Answer {
+        match edits::edit(table, buffer, used, operation, place, piece, self.keys) {
+            Ok(new) => Answer { number: 0, place: 0, used: new as u64, change: new as i32 - used as i32 },
+            Err(fault) => Answer { number: fault.number, place: fault.place, used, change: 0 },
+        }
+    }
+}
+
+/// A refusal: its number, and its place, which is 0 except for 7 to 12.
+#[derive(Clone, Copy, Debug, PartialEq, Eq)]
+pub struct Fault {
+    pub number: u32,
+    pub place: u32,
+}
+
+impl Fault {
+    fn at(number: u32, place: usize) -> Fault {
+        Fault { number, place: place as u32 }
+    }
+}
+
+impl From<u32> for Fault {
+    fn from(number: u32) -> Fault {
+        Fault { number, place: 0 }
+    }
+}
+
+/// The members of a set, rising.
+fn members(mut set: u64) -> impl Iterator<Item = usize> {
+    std::iter::from_fn(move || {
+        if set == 0 {
+            return None;
+        }
+        let k = set.trailing_zeros() as usize;
+        set &= set - 1;
+        Some(k)
+    })
+}
+
+#[cfg(test)]
+mod tests;

@@ -1,0 +1,172 @@
+//! The table: its layout, what a proper one is, one element's block.
+
+use super::members;
+use super::model::one_of_each;
+
+pub const ELEMENTS: usize = 48;
+pub const BLOCK: usize = 138;
+pub const WORDS: usize = 2 + ELEMENTS * BLOCK;
+
+pub const EMPTY: u64 = 0;
+pub const TEXT: u64 = 1;
+pub const MODEL: u64 = 2;
+
+/// Places in a block.
+pub mod at {
+    pub const KIND: usize = 0;
+    pub const ALLOWED: usize = 1;
+    pub const REQUIRED: usize = 2;
+    pub const ID: usize = 3;
+    pub const IDREF: usize = 4;
+    pub const IDREFS: usize = 5;
+    pub const COUNT: usize = 6;
+    pub const NO_CHILD: usize = 7;
+    pub const FIRST: usize = 8;
+    pub const LAST: usize = 9;
+    pub const NAMES: usize = 10;
+    pub const FOLLOW: usize = 74;
+}
+
+/// A table that was found proper.
+#[derive(Clone, Copy)]
+pub struct Table<'a> {
+    words: &'a [u64],
+}
+
+impl<'a> Table<'a> {
+    pub fn proper(words: &'a [u64]) -> Option<Table<'a>> {
+        if words.len() != WORDS {
+            return None;
+        }
+        let (elements, root) = (words[0], words[1]);
+        if elements < 1 || elements > ELEMENTS as u64 || root >= elements {
+            return None;
+        }
+        let (used, unused) = words[2..].split_at(elements as usize * BLOCK);
+        let proper = used.chunks_exact(BLOCK).all(|block| Element { block }.is_proper(elements)) && all_zero(unused);
+        if proper {
+            Some(Table { words })
+        } else {
+            None
+        }
+    }
+
+    pub fn root(&self) -> u32 {
+        self.words[1] as u32
+    }
+
+    /// The block of a declared element.
+    pub fn element(&self, name: u32) -> Option<Element<'a>> {
+        if u64::from(name) >= self.words[0] {
+            return None;
+        }
+        let begin = 2 + name as usize * BLOCK;
+        Some(Element { block: &self.words[begin..begin + BLOCK] })
+    }
+}
+
+#[derive(Clone, Copy)]
+pub struct Element<'a> {
+    block: &'a [u64],
+}
+
+impl<'a> Element<'a> {
+    pub fn kind(&self) -> u64 {
+        self.block[at::KIND]
+    }
+
+    pub fn allowed(&self) -> u64 {
+        self.block[at::ALLOWED]
+    }
+
+    pub fn required(&self) -> u64 {
+        self.block[at::REQUIRED]
+    }
+
+    pub fn id(&self) -> u64 {
+        self.block[at::ID]
+    }
+
+    pub fn idref(&self) -> u64 {
+        self.block[at::IDREF]
+    }
+
+    pub fn idrefs(&self) -> u64 {
+        self.block[at::IDREFS]
+    }
+
+    fn is_proper(&self, elements: u64) -> bool {
+        let (id, idref, idrefs) = (self.id(), self.idref(), self.idrefs());
+        let attributes_proper = (self.required() | id | idref | idrefs) & !self.allowed() == 0
+            && id & idref == 0
+            && id & idrefs == 0
+            && idref & idrefs == 0
+            && id.count_ones() <= 1;
+        attributes_proper
+            && match self.kind() {
+                EMPTY | TEXT => all_zero(&self.block[at::COUNT..]),
+                MODEL => self.is_model_proper(elements),
+                _ => false,
+            }
+    }
+
+    fn is_model_proper(&self, elements: u64) -> bool {
+        let count = self.block[at::COUNT];
+        if !(1..=64).contains(&count) {
+            return false;
+        }
+        let (names, no_names) = self.block[at::NAMES..at::FOLLOW].split_at(count as usize);
+        let (follow, no_follow) = self.block[at::FOLLOW..].split_at(count as usize);
+        let lowest = u64::MAX >> (64 - count);
+        let (first, last) = (self.block[at::FIRST], self.block[at::LAST]);
+        self.block[at::NO_CHILD] <= 1
+            && names.iter().all(|&name| name < elements)
+            && last & !lowest == 0
+            && first & !lowest == 0
+            && one_of_each(names, first)
+            && follow.iter().all(|&set| set & !lowest == 0 && one_of_each(names, set))
+            && all_zero(no_names)
+            && all_zero(no_follow)
+    }
+
+    pub fn run(&self) -> Run<'a> {
+        Run {
+            names: &self.block[at::NAMES..at::FOLLOW],
+            follow: &self.block[at::FOLLOW..],
+            next: self.block[at::FIRST],
+            may_end: self.block[at::NO_CHILD] == 1,
+            last: self.block[at::LAST],
+        }
+    }
+}
+
+fn all_zero(words: &[u64]) -> bool {
+    words.iter().all(|&word| word == 0)
+}
+
+/// A model being run over children: begin in first, move by follow, end in last.
+pub struct Run<'a> {
+    names: &'a [u64],
+    follow: &'a [u64],
+    next: u64,
+    last: u64,
+    may_end: bool,
+}
+
+impl Run<'_> {
+    /// False if no occurrence of that name can come next.
+    pub fn step(&mut self, name: u32) -> bool {
+        match members(self.next).find(|&k| self.names[k] == u64::from(name)) {
+            Some(k) => {
+                self.next = self.follow[k];
+                self.may_end = self.last >> k & 1 == 1;
+                true
+            }
+            None => false,
+        }
+    }
+
+    pub fn may_end(&self) -> bool {
+        self.may_end
+    }
+}

@@ -1,0 +1,145 @@
+//! The plain version on the paper's small shade and its four models.
+
+use super::{Keys, Plain, WORDS};
+use crate::calls::{Answer, Calls, Count, Verdict};
+
+const SCHEMA: [u8; 28] = [4, 0, 2, 5, 0, 4, 6, 3, 8, 1, 0, 0, 0, 2, 2, 3, 7, 1, 1, 1, 0, 1, 0, 0, 1, 2, 2, 0];
+const SHADE: [u32; 15] = [1, 4, 61, 9, 12, 165, 17, 243, 2, 2, 25, 20, 165, 2, 2];
+
+fn both() -> [Plain; 2] {
+    [Plain { keys: Keys::Pairs }, Plain { keys: Keys::Field }]
+}
+
+fn table(plain: &Plain) -> Vec<u64> {
+    let mut table = vec![0; WORDS];
+    assert_eq!(plain.translate(&SCHEMA, &mut table), 0);
+    table
+}
+
+/// Number, place and used length of an edit of the small shade in a buffer of 32 places.
+fn edited(operation: u32, place: u64, piece: &[u32]) -> (u32, u32, u64) {
+    let [plain, field] = both();
+    let table = table(&plain);
+    let mut buffer = [7u32; 32];
+    buffer[..15].copy_from_slice(&SHADE);
+    let before = buffer;
+    let mut second = buffer;
+    let answer = plain.edit(&table, &mut buffer, 15, operation, place, piece);
+    assert_eq!(answer, field.edit(&table, &mut second, 15, operation, place, piece));
+    assert_eq!(buffer, second);
+    assert_eq!(answer.change as i64, answer.used as i64 - 15);
+    if answer.number == 0 {
+        let used = answer.used as usize;
+        assert!(buffer[used..].iter().enumerate().all(|(k, &token)| token == if used + k < 15 { 0 } else { 7 }));
+        assert_eq!(plain.check(&table, &buffer, answer.used), Verdict { number: 0, place: 0 });
+    } else {
+        assert_eq!(buffer, before);
+    }
+    (answer.number, answer.place, answer.used)
+}
+
+#[test]
+fn small_shade_is_valid() {
+    for plain in &both() {
+        assert_eq!(plain.check(&table(plain), &SHADE, 15), Verdict { number: 0, place: 0 });
+        assert_eq!(plain.check(&table(plain), &SHADE, 14).number, 4);
+        assert_eq!(plain.check(&table(plain), &SHADE, 16).number, 4);
+        assert_eq!(plain.check(&table(plain)[1..], &SHADE, 15).number, 13);
+    }
+}
+
+#[test]
+fn edits_of_the_small_shade() {
+    assert_eq!(edited(2, 3, &[]), (9, 0, 15));
+    assert_eq!(edited(2, 10, &[]), (0, 0, 11));
+    assert_eq!(edited(2, 7, &[]), (9, 6, 15));
+    assert_eq!(edited(1, 10, &[9, 12, 165, 2]), (11, 12, 15));
+    assert_eq!(edited(1, 10, &[9, 12, 173, 2]), (0, 0, 19));
+    assert_eq!(edited(1, 3, &[25, 20, 165, 2]), (9, 0, 15));
+    assert_eq!(edited(1, 10, &[25, 20, 165, 2]), (0, 0, 19));
+    assert_eq!(edited(3, 3, &[9, 12, 173, 2]), (12, 9, 15));
+    assert_eq!(edited(5, 3, &[12]), (8, 3, 15));
+    for place in [0, 1, 15] {
+        assert_eq!(edited(1, place, &[25, 20, 165, 2]), (6, 0, 15));
+    }
+    assert_eq!(edited(1, 14, &[25, 20, 165, 2]), (0, 0, 19));
+}
+
+#[test]
+fn refusals_in_order() {
+    assert_eq!(edited(0, 3, &[9]), (6, 0, 15));
+    assert_eq!(edited(1, 99, &[9]), (4, 0, 15));
+    assert_eq!(edited(3, 0, &[243]), (6, 0, 15));
+    assert_eq!(edited(4, 3, &[12, 173]), (12, 12, 15));
+    assert_eq!(edited(4, 3, &[12, 165, 173]), (8, 3, 15));
+    assert_eq!(edited(4, 0, &[4, 69]), (0, 0, 15));
+    assert_eq!(edited(4, 3, &[4, 69]), (8, 3, 15));
+    assert_eq!(edited(5, 3, &[4]), (6, 0, 15));
+    let mut many = vec![9];
+    many.extend([17, 243, 2].repeat(8));
+    many.push(2);
+    assert_eq!(edited(3, 3, &many), (5, 0, 15));
+}
+
+#[test]
+fn a_run_of_edits() {
+    let plain = Plain { keys: Keys::Pairs };
+    let table = table(&plain);
+    let mut buffer = vec![0; 8192];
+    buffer[..15].copy_from_slice(&SHADE);
+    let mut used = 15;
+    let steps: [(u32, u64, &[u32], (u32, u32, u64)); 5] = [
+        (2, 3, &[], (9, 0, 15)),
+        (1, 10, &[9, 12, 173, 2], (0, 0, 19)),
+        (3, 3, &[9, 12, 173, 2], (11, 9, 19)),
+        (2, 14, &[], (0, 0, 15)),
+        (2, 3, &[], (0, 0, 8)),
+    ];
+    for (operation, place, piece, expected) in steps {
+        let Answer { number, place, used: now, .. } = plain.edit(&table, &mut buffer, used, operation, place, piece);
+        assert_eq!((number, place, now), expected);
+        used = now;
+    }
+}
+
+/// The answer to a schema of four elements whose root has this model, the others being empty.
+fn model(symbols: &[u8]) -> u32 {
+    let mut file = vec![4, 0, 2];
+    file.extend(if symbols.len() < 128 { vec![symbols.len() as u8] } else { vec![symbols.len() as u8, 1] });
+    file.extend(symbols);
+    file.extend([0, 0, 0, 0, 0, 0, 0]);
+    Plain { keys: Keys::Pairs }.translate(&file, &mut vec![0; WORDS])
+}
+
+#[test]
+fn four_models() {
+    let sequence = |count: usize| [vec![0; count - 1], vec![6; count]].concat();
+    assert_eq!(model(&[0, 2, 6, 6]), 3);
+    assert_eq!(model(&[1, 0, 6, 7, 0, 6, 8]), 3);
+    assert_eq!(model(&[3, 0, 3, 6, 3, 7]), 0);
+    assert_eq!(model(&sequence(64)), 0);
+    assert_eq!(model(&sequence(65)), 2);
+    assert_eq!(model(&[0, 6]), 2);
+    assert_eq!(model(&[6, 6]), 2);
+    assert_eq!(model(&[9]), 2);
+}
+
+#[test]
+fn files() {
+    let plain = Plain { keys: Keys::Pairs };
+    let refused = |number| Count { number, count: 0 };
+    let mut tokens = [9; 4];
+    assert_eq!(plain.read(&[127, 128, 1, 255, 255, 127], &mut tokens), Count { number: 0, count: 3 });
+    assert_eq!(tokens, [127, 128, 2_097_151, 9]);
+    assert_eq!(plain.read(&[], &mut []), Count { number: 0, count: 0 });
+    for broken in [&[128][..], &[128, 0], &[128, 128, 0], &[255, 255, 255, 1], &[1, 1, 1, 1, 128]] {
+        assert_eq!(plain.read(broken, &mut tokens), refused(1));
+    }
+    assert_eq!(plain.read(&[1, 1, 1, 1, 1], &mut tokens), refused(5));
+    let mut file = [7; 7];
+    assert_eq!(plain.write(&[127, 128, 2_097_151], &mut file), Count { number: 0, count: 6 });
+    assert_eq!(file, [127, 128, 1, 255, 255, 127, 7]);
+    assert_eq!(plain.write(&[127, 128, 2_097_151], &mut file[..5]), refused(5));
+    assert_eq!(plain.write(&[2_097_152], &mut []), refused(4));
+    assert_eq!(plain.write(&[1; 8193], &mut [0; 9000]), refused(5));
+}

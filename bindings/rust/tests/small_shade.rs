@@ -1,0 +1,166 @@
+//! The paper's small shade, and what the binding adds to the calls: lengths, answers as types, words.
+use shrikemuff::{raw, read, write, Done, Edit, Fault, Refusal, Table, MOST_BYTES, MOST_TOKENS, TABLE_WORDS};
+
+const SCHEMA: [u8; 28] = [
+    4, 0, 2, 5, 0, 4, 6, 3, 8, 1, 0, 0, 0, 2, 2, 3, 7, 1, 1, 1, 0, 1, 0, 0, 1, 2, 2, 0,
+];
+const SHADE: [u32; 15] = [1, 4, 61, 9, 12, 165, 17, 243, 2, 2, 25, 20, 165, 2, 2];
+const FILE: [u8; 18] = [1, 4, 61, 9, 12, 165, 1, 17, 243, 1, 2, 2, 25, 20, 165, 1, 2, 2];
+const BEHIND: u32 = 77;
+
+fn table() -> Table {
+    Table::translate(&SCHEMA).unwrap()
+}
+
+/// The shade in a buffer, with something behind it.
+fn shade() -> Vec<u32> {
+    let mut doc = vec![BEHIND; 40];
+    doc[..15].copy_from_slice(&SHADE);
+    doc
+}
+
+fn fault<T>(refusal: Refusal, place: usize) -> Result<T, Fault> {
+    Err(Fault { refusal, place })
+}
+
+/// Makes one edit of the shade. A refusal changes nothing; an edit that is done leaves `left`, zeros up to the old length, and what
+/// was behind.
+#[track_caller]
+fn edited(edit: Edit<'_>, due: Result<Done, Fault>, left: &[u32]) {
+    let mut doc = shade();
+    assert_eq!(table().edit(&mut doc, 15, edit), due);
+    let mut expected = shade();
+    if due.is_ok() {
+        expected[..15].fill(0);
+        expected[..left.len()].copy_from_slice(left);
+    }
+    assert_eq!(doc, expected);
+}
+
+#[test]
+fn files() {
+    let mut doc = vec![BEHIND; 20];
+    assert_eq!(read(&FILE, &mut doc), Ok(15));
+    assert_eq!(doc[..15], SHADE);
+    assert_eq!(doc[15..], [BEHIND; 5]);
+    let mut file = vec![99; 20];
+    assert_eq!(write(&SHADE, &mut file), Ok(18));
+    assert_eq!(file[..18], FILE);
+    assert_eq!(file[18..], [99; 2]);
+    assert_eq!(read(&[128, 0], &mut doc), Err(Refusal::Broken));
+    assert_eq!(read(&FILE, &mut doc[..14]), Err(Refusal::Room));
+    assert_eq!(read(&[], &mut []), Ok(0));
+    assert_eq!(write(&[2_097_152], &mut file), Err(Refusal::Shape));
+    assert_eq!(write(&SHADE, &mut file[..17]), Err(Refusal::Room));
+    assert_eq!(write(&[], &mut []), Ok(0));
+    let largest = vec![2_097_151; MOST_TOKENS];
+    let mut file = vec![0; MOST_BYTES];
+    assert_eq!(write(&largest, &mut file), Ok(MOST_BYTES));
+    let mut doc = vec![0; MOST_TOKENS];
+    assert_eq!(read(&file, &mut doc), Ok(MOST_TOKENS));
+    assert_eq!(doc, largest);
+}
+
+#[test]
+fn schemas() {
+    let t = table();
+    assert_eq!(t.words()[..4], [4, 0, 2, 1]);
+    assert_eq!(format!("{:?}", t), "Table of 4 elements, root 0");
+    assert_eq!(Table::from_words(Box::new(*t.words())), t);
+    assert_eq!(Table::translate(&SCHEMA[..27]), Err(Refusal::Broken));
+    assert_eq!(Table::translate(&[0]), Err(Refusal::Schema));
+    assert_eq!(Table::translate(&[2, 0, 2, 4, 0, 2, 6, 6, 0, 0, 0]), Err(Refusal::Ambiguous));
+}
+
+#[test]
+fn checks() {
+    let doc = shade();
+    assert_eq!(table().check(&doc, 15), Ok(()));
+    assert_eq!(table().check(&doc, 14), fault(Refusal::Shape, 0));
+    assert_eq!(table().check(&doc, usize::MAX), fault(Refusal::Shape, 0));
+    assert_eq!(Table::from_words(Box::new([0; TABLE_WORDS])).check(&doc, 15), fault(Refusal::Table, 0));
+    let mut other = shade();
+    other[0] = 9;
+    assert_eq!(table().check(&other, 15), fault(Refusal::Root, 0));
+    let mut other = shade();
+    other[12] = 173;
+    assert_eq!(table().check(&other, 15), fault(Refusal::NoId, 12));
+}
+
+#[test]
+fn edits() {
+    use Refusal::*;
+    let panel = [9, 12, 173, 2];
+    let twin = [9, 12, 165, 2];
+    let link = [25, 20, 165, 2];
+    edited(Edit::remove(3), fault(Content, 0), &[]);
+    edited(Edit::remove(10), Ok(Done { used: 11, change: -4 }), &[1, 4, 61, 9, 12, 165, 17, 243, 2, 2, 2]);
+    edited(Edit::remove(7), fault(Content, 6), &[]);
+    edited(Edit::insert(10, &twin), fault(IdTwice, 12), &[]);
+    edited(
+        Edit::insert(10, &panel),
+        Ok(Done { used: 19, change: 4 }),
+        &[1, 4, 61, 9, 12, 165, 17, 243, 2, 2, 9, 12, 173, 2, 25, 20, 165, 2, 2],
+    );
+    edited(Edit::insert(3, &link), fault(Content, 0), &[]);
+    edited(
+        Edit::insert(10, &link),
+        Ok(Done { used: 19, change: 4 }),
+        &[1, 4, 61, 9, 12, 165, 17, 243, 2, 2, 25, 20, 165, 2, 25, 20, 165, 2, 2],
+    );
+    edited(Edit::replace(3, &panel), fault(NoId, 9), &[]);
+    edited(Edit::drop(3, &[12]), fault(Attributes, 3), &[]);
+    edited(
+        Edit::set(0, &[4, 69]),
+        Ok(Done { used: 15, change: 0 }),
+        &[1, 4, 69, 9, 12, 165, 17, 243, 2, 2, 25, 20, 165, 2, 2],
+    );
+    for place in [0, 1, 15, usize::MAX] {
+        edited(Edit::insert(place, &panel), fault(Place, 0), &[]);
+    }
+    edited(Edit { operation: 6, place: 3, piece: &[] }, fault(Place, 0), &[]);
+    edited(Edit::insert(10, &panel[..3]), fault(Shape, 0), &[]);
+    let mut short = SHADE;
+    assert_eq!(table().edit(&mut short, 15, Edit::insert(10, &panel)), fault(Room, 0));
+    assert_eq!(short, SHADE);
+}
+
+/// The raw answer of an edit gives back the length that was handed in, with all its bits.
+#[test]
+fn raw_lengths() {
+    let t = table();
+    let mut doc = shade();
+    let given = (1 << 40) + 15;
+    // SAFETY: the pointers are those of live slices, with their lengths.
+    let r = unsafe {
+        raw::shrike_edit(t.words().as_ptr(), TABLE_WORDS, doc.as_mut_ptr(), doc.len(), given, 2, 10, [].as_ptr(), 0)
+    };
+    assert_eq!(r, raw::Answer { number: 4, place: 0, used: given, change: 0 });
+    assert_eq!(doc, shade());
+}
+
+#[test]
+fn words() {
+    for (i, refusal) in Refusal::ALL.iter().enumerate() {
+        assert_eq!(refusal.number() as usize, i + 1);
+    }
+    let said: Vec<String> = Refusal::ALL.iter().map(|&refusal| Fault { refusal, place: 5 }.to_string()).collect();
+    assert_eq!(
+        said,
+        [
+            "broken number",
+            "schema value, form or limit",
+            "ambiguous model",
+            "no shape, or bad piece",
+            "too large, or no room",
+            "operation or place",
+            "name at 5",
+            "attributes at 5",
+            "content at 5",
+            "root at 5",
+            "ID twice at 5",
+            "reference to none at 5",
+            "table"
+        ]
+    );
+}

@@ -1,0 +1,2 @@
+-- What the host library's contracts cite. Assumes nothing.
+pub mod Outcomes

@@ -1,0 +1,99 @@
+// The host library: the five calls under the names and types of C. `include/shrikemuff.h` describes them to a host.
+//
+// A slice is a pointer and a length, a struct is C's struct. No call asks anything of its arguments, allocates or keeps state; the
+// contract of each is that of the call it hands on: the answer and every place of lent memory.
+// Assumes nothing.
+ghost use mathlib.Core.Path.{_≡_};
+ghost use Rattle.paper.specs.Files;
+ghost use Rattle.paper.specs.Table;
+ghost use Rattle.paper.specs.Judgement;
+ghost use Rattle.paper.specs.Edits;
+ghost use Rattle.shrikemuff.specs.Outcomes.{counted, edited};
+
+// "reader and writer [answer] a number and the count of tokens or bytes, 0 when refused"
+#[repr(C)]
+pub struct Count {
+    pub number: u32,
+    pub count: u32,
+}
+
+// "The check answers number and place"
+#[repr(C)]
+pub struct Verdict {
+    pub number: u32,
+    pub place: u32,
+}
+
+// "The answer has number, place, used length, and the change in length, a signed count that is negative when tokens went."
+#[repr(C)]
+pub struct Answer {
+    pub number: u32,
+    pub place: u32,
+    pub used: u64,
+    pub change: i32,
+}
+
+// Reads a document file into the first places of the buffer.
+#[no_mangle]
+pub extern "C" fn shrike_read(file: &[u8], tokens: &mut [u32]) -> Count
+    ensures { λ r. ⌜ counted r (now (tokens .exit)) ≡ Files.read (now (file .entry)) (now (tokens .entry)) ⌝ }
+{
+    let got = docfile::read(file, tokens);
+    Count {
+        number: got.number,
+        count: got.count,
+    }
+}
+
+// Writes every token of the slice into the first bytes of the buffer.
+#[no_mangle]
+pub extern "C" fn shrike_write(tokens: &[u32], file: &mut [u8]) -> Count
+    ensures { λ r. ⌜ counted r (now (file .exit)) ≡ Files.write (now (tokens .entry)) (now (file .entry)) ⌝ }
+{
+    let put = docfile::write(tokens, file);
+    Count {
+        number: put.number,
+        count: put.count,
+    }
+}
+
+// Translates a schema file to a table.
+#[no_mangle]
+pub extern "C" fn shrike_translate(file: &[u8], table: &mut [u64]) -> u32
+    ensures { λ r. ⌜ (r, now (table .exit)) ≡ Table.translate (now (file .entry)) (now (table .entry)) ⌝ }
+{
+    schema::translate(file, table)
+}
+
+// Checks the first `used` tokens of the buffer.
+#[no_mangle]
+pub extern "C" fn shrike_check(table: &[u64], doc: &[u32], used: u64) -> Verdict
+    ensures { λ r. ⌜ (r .number, r .place) ≡ Judgement.check (now (table .entry)) (now (doc .entry)) used ⌝ }
+{
+    let said = judge::check(table, doc, used as usize);
+    Verdict {
+        number: said.number,
+        place: said.place,
+    }
+}
+
+// Makes an edit of the first `used` tokens of the buffer, or refuses it.
+#[no_mangle]
+pub extern "C" fn shrike_edit(
+    table: &[u64],
+    doc: &mut [u32],
+    used: u64,
+    operation: u32,
+    place: u64,
+    piece: &[u32],
+) -> Answer
+    ensures { λ r. ⌜ edited r (now (doc .exit)) ≡ Edits.edit (now (table .entry)) (now (doc .entry)) used (record { operation = operation; place = place; piece = now (piece .entry) }) ⌝ }
+{
+    let made = edits::edit(table, doc, used as usize, operation, place as usize, piece);
+    Answer {
+        number: made.number,
+        place: made.place,
+        used: made.used as u64,
+        change: made.change,
+    }
+}

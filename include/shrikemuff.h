@@ -1,0 +1,205 @@
+/* shrikemuff.h: small XML documents, held as tokens, kept to their schema.
+ *
+ * Five calls: a document file is read into tokens and written from them; a schema file is translated to a table; a document is checked
+ * by a table; a document is edited, and stays as it was unless the edited document keeps to the schema. Link libshrikemuff.a. ISO C99,
+ * and C++; Linux on x86-64.
+ *
+ * What each call answers, and what it leaves in every place of the memory lent to it, is proved of the source that the library is compiled
+ * from. The compiler that makes machine code of it is not proved.
+ *
+ *
+ * MEMORY
+ *
+ * All memory is the caller's: lent for the call, and not kept. No call allocates, none has state, none needs setting up.
+ *
+ * An array is lent as a pointer and its length in elements (not in bytes), and has that many. It is aligned for its type: 4 bytes for
+ * uint32_t, 8 for uint64_t. With length 0 nothing is read or written, and the pointer may be anything, NULL too.
+ *
+ * An array that a call writes to (a pointer without `const`) overlaps nothing else that is lent to that call.
+ *
+ * A refused call leaves everything lent as it was. Apart from this nothing is asked: any bytes, numbers and lengths get an answer.
+ *
+ * Calls may run in several threads at once, as long as no array that one of them writes to is lent to another. A table that is written
+ * once may serve all threads.
+ *
+ * Stack of a call, compiled for x86-64, in bytes:
+ *
+ *     shrike_read, shrike_write       under 100
+ *     shrike_translate                under 104,000
+ *     shrike_check                    under 100,000
+ *     shrike_edit                     under 133,000
+ *
+ * So a thread keeps 160 KiB free. (A main thread has 8 MiB by custom. Threads of musl have 128 KiB unless they ask for more.) A large
+ * frame is touched a page at a time, from the top: where there is too little, the guard page is met and nothing is overwritten.
+ *
+ * The library calls memcpy and memset and nothing else. It does no input or output, and each call ends.
+ *
+ *
+ * NUMBERS IN FILES
+ *
+ * A file is a run of numbers from 0 to 2,097,151, each in one to three bytes. A byte carries seven bits, the lowest group first; the top
+ * bit is set in all bytes of a number but the last. Only the shortest form counts. 127 is one byte, 128 is the bytes 128 1, and 2,097,151
+ * is 255 255 127. A number is broken if the file ends inside it, if it calls for a fourth byte, or if it has several bytes and the last
+ * is 0.
+ *
+ *
+ * TOKENS
+ *
+ * Names and strings are numbers: the host keeps the strings, one number for each different string. A token is number * 8 + sort, the
+ * number at most 65,535:
+ *
+ *     1  start of an element; the number is its name
+ *     2  end of an element; the number is 0, so the token is 2
+ *     3  text
+ *     4  attribute; the number is its name
+ *     5  value of the attribute before it
+ *
+ * A document is one element. It has shape if it has 2 to 8,192 tokens, all as above; token 0 is a start, and its end is the last token;
+ * starts and ends balance, at most 64 deep with the root at 1; attributes stand directly after their start, numbers strictly rising, each
+ * followed by one or more values; and values stand nowhere else. A document's file is its tokens as numbers and nothing else.
+ *
+ * A document stands in the first `used` places of a buffer of `room` places. What the places behind it hold is of no account.
+ *
+ *
+ * ANSWERS
+ *
+ *                                                   read  write  translate  check  edit
+ *      0  valid, or done                              *     *        *        *     *
+ *      1  broken number                               *              *
+ *      2  schema value, form or limit                                *
+ *      3  ambiguous model                                            *
+ *      4  no shape, or bad piece                            *                 *     *
+ *      5  too large, or no room                       *     *                       *
+ *      6  operation or place                                                        *
+ *      7  name: the element is not declared                                         *
+ *      8  attributes                                                          *     *
+ *      9  content                                                             *     *
+ *     10  root: not the schema's                                              *     *
+ *     11  ID twice                                                            *     *
+ *     12  reference to no ID                                                  *     *
+ *     13  table: not of 6,626 words, or not proper                   *        *     *
+ *
+ * A call gives the first that applies, in the order that stands with it.
+ *
+ * A place is the index of a token, from 0. For 7, 8 and 9 it is the start of the element that has the fault, for 10 it is 0, for 11 the
+ * later of the two values, for 12 the value that refers to nothing. For other numbers it is 0.
+ */
+#ifndef SHRIKEMUFF_H
+#define SHRIKEMUFF_H
+
+#include <stddef.h>
+#include <stdint.h>
+
+#ifdef __cplusplus
+extern "C" {
+#endif
+
+/* Lengths. */
+enum {
+    SHRIKE_TABLE_WORDS = 6626, /* a table, in words of 64 bits (53,008 bytes) */
+    SHRIKE_MOST_TOKENS = 8192, /* a document; a piece */
+    SHRIKE_MOST_BYTES = 24576  /* a document's file: three bytes for each token */
+};
+
+/* Answer numbers. */
+enum {
+    SHRIKE_DONE = 0,
+    SHRIKE_BROKEN = 1,
+    SHRIKE_SCHEMA = 2,
+    SHRIKE_AMBIGUOUS = 3,
+    SHRIKE_SHAPE = 4,
+    SHRIKE_ROOM = 5,
+    SHRIKE_PLACE = 6,
+    SHRIKE_NAME = 7,
+    SHRIKE_ATTRIBUTES = 8,
+    SHRIKE_CONTENT = 9,
+    SHRIKE_ROOT = 10,
+    SHRIKE_ID_TWICE = 11,
+    SHRIKE_NO_ID = 12,
+    SHRIKE_TABLE = 13
+};
+
+/* Operations. */
+enum {
+    SHRIKE_INSERT = 1,
+    SHRIKE_REMOVE = 2,
+    SHRIKE_REPLACE = 3,
+    SHRIKE_SET = 4,
+    SHRIKE_DROP = 5
+};
+
+/* The answer of shrike_read and shrike_write. count: the tokens read, or the bytes written; 0 when refused. */
+typedef struct {
+    uint32_t number, count;
+} shrike_count;
+
+/* The answer of shrike_check. */
+typedef struct {
+    uint32_t number, place;
+} shrike_verdict;
+
+/* The answer of shrike_edit. used: the document's length after the call. change: the new length less the old, negative when tokens went.
+ * A refusal gives the length that was handed in, and change 0. */
+typedef struct {
+    uint32_t number, place;
+    uint64_t used;
+    int32_t change;
+} shrike_answer;
+
+/* Reads the document file `file` into the first places of `tokens`; the places behind keep their contents. The tree is not judged, and an
+ * empty file is zero tokens.
+ *
+ * From the front, the first of these decides: a broken number (1); a number for which there is no place, in `tokens` or past 8,192 (5). */
+shrike_count shrike_read(const uint8_t *file, size_t file_len, uint32_t *tokens, size_t room);
+
+/* Writes the `n` tokens into the first bytes of `file`; the bytes behind keep their contents. The tree is not judged.
+ *
+ * Order: over 8,192 tokens (5); a token over 2,097,151 (4); too little room (5). SHRIKE_MOST_BYTES bytes are always enough. */
+shrike_count shrike_write(const uint32_t *tokens, size_t n, uint8_t *file, size_t room);
+
+/* Translates the schema file `file` to a table, and answers a number. `words` is SHRIKE_TABLE_WORDS.
+ *
+ * The numbers of a schema file: the number of elements E, 1 to 48; the root, below E; then for each element 0 to E-1:
+ *   - its kind: 0 empty, 1 text only, 2 a content model;
+ *   - for kind 2 the count of symbols, 1 to 255, and the symbols: 0 sequence and 1 choice, each before two expressions; 2 optional, 3 zero
+ *     or more and 4 one or more, each before one expression; 5+e the element e, below 5+E. They are exactly one expression, in which at
+ *     most 64 names occur;
+ *   - the count of attributes, 0 to 64, and for each: its number, 0 to 63, strictly rising; its kind, 0 CDATA, 1 ID, 2 IDREF, 3 IDREFS; its
+ *     status, 0 required, 1 implied. At most one is an ID.
+ *
+ * A model is ambiguous if a child could be meant by two different occurrences of its name, as in (a?, a).
+ *
+ * Order: `words` (13); then the file from the front, each number's form (1, also where the file ends and a number is due) before its value
+ * (2); after a model's symbols, whether they are one expression of at most 64 names (2), then ambiguity (3); bytes left at the end (2). */
+uint32_t shrike_translate(const uint8_t *file, size_t file_len, uint64_t *table, size_t words);
+
+/* Checks the document in the first `used` places of `doc`.
+ *
+ * Order: the table (13); shape, and `used` over `room` (4); the root's name (10); then each element by rising place: its attributes (8: each
+ * one allowed, all required ones present, one value each unless IDREFS), then its content (9); then an ID that stands twice (11); then a
+ * reference to no ID (12). */
+shrike_verdict shrike_check(const uint64_t *table, size_t words, const uint32_t *doc, size_t room, uint64_t used);
+
+/* Edits the document in the first `used` places of `doc`, if the edited document keeps to the schema at what the edit touches. From a valid
+ * document, an edit is done only if the edited document is valid.
+ *
+ *   1 insert   the piece, one element or one text, goes before the token at `place`: a start, a text or an end, and not place 0
+ *   2 remove   the element or the text at `place` goes; not place 0. The piece is empty
+ *   3 replace  the piece, one element or one text, takes the place of the element or the text at `place`; at place 0 it is an element
+ *   4 set      the piece, one attribute and its values, is added to the element that starts at `place`, or takes the place of the values there
+ *   5 drop     the piece is one attribute token: that attribute of the element that starts at `place` goes, with its values
+ *
+ * Done: `doc` holds the edited document, then 0 up to the old length; later places keep their contents.
+ *
+ * Order: the table (13); shape, and `used` over `room` (4); operation (6); the piece (4), which also has at most 8,192 tokens and is at most
+ * 64 deep by itself; `place` (6); the result over 8,192 tokens, over 64 deep or over `room` (5); then the edited document: the root's name
+ * (10); at touched elements, by rising place, the name (7), attributes (8) and content (9); IDs (11); references (12). Touched are the
+ * parent (for set and drop the element itself) and all elements of the piece. Places are those of the edited document. */
+shrike_answer shrike_edit(const uint64_t *table, size_t words, uint32_t *doc, size_t room, uint64_t used, uint32_t operation,
+                          uint64_t place, const uint32_t *piece, size_t n);
+
+#ifdef __cplusplus
+}
+#endif
+
+#endif

@@ -1,0 +1,244 @@
+/* Calls every function of the header, with values that a swapped field, a swapped argument or a wrong width would show. Each answer is
+ * the paper's. Ends with 1 if one differs. C99 and C++; the system is POSIX, for address space that is lent and must not be touched. */
+#define _DEFAULT_SOURCE
+#include "shrikemuff.h"
+
+#include <stdio.h>
+#include <string.h>
+#include <sys/mman.h>
+
+/* ---- the types, as the header gives them */
+
+#define HOLDS(name, test) typedef char name[(test) ? 1 : -1]
+HOLDS(count_is_8, sizeof(shrike_count) == 8);
+HOLDS(count_number_at_0, offsetof(shrike_count, number) == 0);
+HOLDS(count_count_at_4, offsetof(shrike_count, count) == 4);
+HOLDS(verdict_is_8, sizeof(shrike_verdict) == 8);
+HOLDS(verdict_number_at_0, offsetof(shrike_verdict, number) == 0);
+HOLDS(verdict_place_at_4, offsetof(shrike_verdict, place) == 4);
+HOLDS(answer_is_24, sizeof(shrike_answer) == 24);
+HOLDS(answer_number_at_0, offsetof(shrike_answer, number) == 0);
+HOLDS(answer_place_at_4, offsetof(shrike_answer, place) == 4);
+HOLDS(answer_used_at_8, offsetof(shrike_answer, used) == 8);
+HOLDS(answer_change_at_16, offsetof(shrike_answer, change) == 16);
+HOLDS(lengths_have_64_bits, sizeof(size_t) == 8);
+
+static shrike_count (*const read_file)(const uint8_t *, size_t, uint32_t *, size_t) = shrike_read;
+static shrike_count (*const write_file)(const uint32_t *, size_t, uint8_t *, size_t) = shrike_write;
+static uint32_t (*const translate)(const uint8_t *, size_t, uint64_t *, size_t) = shrike_translate;
+static shrike_verdict (*const check)(const uint64_t *, size_t, const uint32_t *, size_t, uint64_t) = shrike_check;
+static shrike_answer (*const edit)(const uint64_t *, size_t, uint32_t *, size_t, uint64_t, uint32_t, uint64_t, const uint32_t *,
+                                   size_t) = shrike_edit;
+
+/* ---- what is compared */
+
+static unsigned compared, wrong;
+
+static void same(int line, const char *what, uint64_t got, uint64_t due) {
+    compared++;
+    if (got == due) return;
+    wrong++;
+    printf("line %d: %s is %llu and should be %llu\n", line, what, (unsigned long long)got, (unsigned long long)due);
+}
+
+static void bytes_same(int line, const void *got, const void *due, size_t n) {
+    compared++;
+    if (memcmp(got, due, n) == 0) return;
+    wrong++;
+    printf("line %d: memory is not as it should be\n", line);
+}
+
+static void counted(int line, shrike_count r, uint32_t number, uint32_t count) {
+    same(line, "number", r.number, number);
+    same(line, "count", r.count, count);
+}
+
+static void judged(int line, shrike_verdict r, uint32_t number, uint32_t place) {
+    same(line, "number", r.number, number);
+    same(line, "place", r.place, place);
+}
+
+static void answered(int line, shrike_answer r, uint32_t number, uint32_t place, uint64_t used, int32_t change) {
+    same(line, "number", r.number, number);
+    same(line, "place", r.place, place);
+    same(line, "used", r.used, used);
+    same(line, "change", (uint64_t)(int64_t)r.change, (uint64_t)(int64_t)change);
+}
+
+#define COUNTED(call, number, count) counted(__LINE__, call, number, count)
+#define JUDGED(call, number, place) judged(__LINE__, call, number, place)
+#define ANSWERED(call, number, place, used, change) answered(__LINE__, call, number, place, used, change)
+#define SAME(what, got, due) same(__LINE__, what, got, due)
+#define BYTES(got, due, n) bytes_same(__LINE__, got, due, n)
+
+/* ---- the small shade */
+
+#define TABLE 6626
+#define PLACES 40
+#define FILLED 0xfeedu
+static const uint64_t OVER = UINT64_C(1) << 32;
+
+static const uint8_t schema[] = {4, 0, 2, 5, 0, 4, 6, 3, 8, 1, 0, 0, 0, 2, 2, 3, 7, 1, 1, 1, 0, 1, 0, 0, 1, 2, 2, 0};
+static const uint8_t file[] = {1, 4, 61, 9, 12, 165, 1, 17, 243, 1, 2, 2, 25, 20, 165, 1, 2, 2};
+static const uint32_t shade[] = {1, 4, 61, 9, 12, 165, 17, 243, 2, 2, 25, 20, 165, 2, 2};
+static const uint32_t panel[] = {9, 12, 173, 2};
+enum { SCHEMA = sizeof schema, FILE_LENGTH = sizeof file, SHADE = sizeof shade / sizeof *shade, PANEL = 4 };
+
+/* A document's buffer: the tokens, and filled behind them. */
+static void fill(uint32_t *doc, const uint32_t *tokens, size_t n) {
+    for (size_t i = 0; i < PLACES; i++) doc[i] = i < n ? tokens[i] : FILLED;
+}
+
+/* n bytes of address space of which the first page alone may be touched, or none. */
+static void *reserve(size_t n, int page) {
+    void *p = mmap(NULL, n, PROT_NONE, MAP_PRIVATE | MAP_ANONYMOUS | MAP_NORESERVE, -1, 0);
+    if (p == MAP_FAILED || (page && mprotect(p, 4096, PROT_READ | PROT_WRITE) != 0)) {
+        perror("address space");
+        return NULL;
+    }
+    return p;
+}
+
+static uint64_t table[TABLE], before[TABLE];
+
+static void readers(void) {
+    uint32_t got[PLACES], due[PLACES];
+    fill(got, shade, 0);
+    fill(due, shade, SHADE);
+    COUNTED(read_file(file, FILE_LENGTH, got, SHADE), 0, SHADE);
+    BYTES(got, due, sizeof got);
+    fill(got, shade, 0);
+    fill(due, shade, 0);
+    COUNTED(read_file(file, FILE_LENGTH, got, SHADE - 1), 5, 0);
+    COUNTED(read_file(file, 6, got, PLACES), 1, 0);
+    COUNTED(read_file(file, 0, got, PLACES), 0, 0);
+    COUNTED(read_file(NULL, 0, NULL, 0), 0, 0);
+    BYTES(got, due, sizeof got);
+    static const uint8_t largest[] = {255, 255, 127};
+    COUNTED(read_file(largest, 3, got, 1), 0, 1);
+    SAME("token", got[0], 2097151);
+    SAME("token", got[1], FILLED);
+}
+
+static void writers(void) {
+    uint8_t got[PLACES], due[PLACES];
+    static uint32_t many[8193];
+    memset(got, 99, sizeof got);
+    memset(due, 99, sizeof due);
+    memcpy(due, file, FILE_LENGTH);
+    COUNTED(write_file(shade, SHADE, got, FILE_LENGTH), 0, FILE_LENGTH);
+    BYTES(got, due, sizeof got);
+    memset(got, 99, sizeof got);
+    memset(due, 99, sizeof due);
+    static const uint32_t large[] = {2097152};
+    COUNTED(write_file(shade, SHADE, got, FILE_LENGTH - 1), 5, 0);
+    COUNTED(write_file(large, 1, got, sizeof got), 4, 0);
+    COUNTED(write_file(many, 8193, got, sizeof got), 5, 0);
+    COUNTED(write_file(NULL, 0, NULL, 0), 0, 0);
+    BYTES(got, due, sizeof got);
+}
+
+static void translators(void) {
+    /* (a?, a), which is ambiguous */
+    static const uint8_t ambiguous[] = {2, 0, 2, 4, 0, 2, 6, 6, 0, 0, 0};
+    static const uint64_t first_block[] = {2, 1, 1, 0, 0, 0, 2, 0, 1, 3, 1, 3};
+    static const uint8_t more[] = {1, 0, 0, 0, 0};
+    for (size_t i = 0; i < TABLE; i++) before[i] = table[i] = i;
+    SAME("number", translate(schema, SCHEMA, table, TABLE - 1), 13);
+    SAME("number", translate(schema, SCHEMA, table, 0), 13);
+    SAME("number", translate(schema, SCHEMA - 1, table, TABLE), 1);
+    SAME("number", translate(NULL, 0, table, TABLE), 1);
+    SAME("number", translate(more, sizeof more, table, TABLE), 2);
+    SAME("number", translate(ambiguous, sizeof ambiguous, table, TABLE), 3);
+    BYTES(table, before, sizeof table);
+    SAME("number", translate(schema, SCHEMA, table, TABLE), 0);
+    SAME("elements", table[0], 4);
+    SAME("root", table[1], 0);
+    BYTES(table + 2, first_block, sizeof first_block);
+    SAME("follow set", table[2 + 74], 3);
+    SAME("follow set", table[2 + 75], 2);
+    SAME("last word", table[TABLE - 1], 0);
+    memcpy(before, table, sizeof table);
+}
+
+static void checks(void) {
+    uint32_t doc[PLACES], due[PLACES];
+    static const uint32_t no_text[] = {1, 4, 61, 9, 12, 165, 17, 2, 2, 25, 20, 165, 2, 2};
+    fill(doc, shade, SHADE);
+    fill(due, shade, SHADE);
+    JUDGED(check(table, TABLE, doc, PLACES, SHADE), 0, 0);
+    JUDGED(check(table, TABLE, doc, SHADE, SHADE), 0, 0);
+    JUDGED(check(table, TABLE, doc, SHADE - 1, SHADE), 4, 0);
+    JUDGED(check(table, TABLE, doc, PLACES, SHADE - 1), 4, 0);
+    JUDGED(check(table, TABLE, doc, PLACES, OVER + SHADE), 4, 0);
+    JUDGED(check(table, TABLE - 1, doc, PLACES, SHADE), 13, 0);
+    JUDGED(check(NULL, 0, doc, PLACES, SHADE), 13, 0);
+    JUDGED(check(table, TABLE, NULL, 0, SHADE), 4, 0);
+    BYTES(doc, due, sizeof doc);
+    JUDGED(check(table, TABLE, no_text, 14, 14), 9, 6);
+}
+
+static void edits(void) {
+    uint32_t doc[PLACES], due[PLACES];
+    fill(doc, shade, SHADE);
+    fill(due, shade, SHADE);
+    /* refusals: the used length comes back as it was given, and nothing is written */
+    ANSWERED(edit(table, TABLE, doc, PLACES, SHADE, 2, 7, NULL, 0), 9, 6, SHADE, 0);
+    ANSWERED(edit(table, TABLE, doc, PLACES, SHADE, 3, 3, panel, PANEL), 12, 9, SHADE, 0);
+    ANSWERED(edit(table, TABLE, doc, PLACES, OVER + SHADE, 2, 10, NULL, 0), 4, 0, OVER + SHADE, 0);
+    ANSWERED(edit(table, TABLE, doc, PLACES, UINT64_MAX, 2, 10, NULL, 0), 4, 0, UINT64_MAX, 0);
+    ANSWERED(edit(table, TABLE, doc, PLACES, SHADE, 2, OVER + 10, NULL, 0), 6, 0, SHADE, 0);
+    ANSWERED(edit(table, TABLE, doc, PLACES, SHADE, UINT32_MAX, 10, NULL, 0), 6, 0, SHADE, 0);
+    ANSWERED(edit(table, TABLE, doc, PLACES, SHADE, 65536 + 2, 10, NULL, 0), 6, 0, SHADE, 0);
+    ANSWERED(edit(table, TABLE, doc, PLACES, SHADE, 1, 10, panel, PANEL - 1), 4, 0, SHADE, 0);
+    ANSWERED(edit(table, TABLE, doc, SHADE + PANEL - 1, SHADE, 1, 10, panel, PANEL), 5, 0, SHADE, 0);
+    ANSWERED(edit(table, TABLE, doc, SHADE - 1, SHADE, 2, 10, NULL, 0), 4, 0, SHADE, 0);
+    ANSWERED(edit(table, TABLE - 1, doc, PLACES, OVER + 1, 2, 10, NULL, 0), 13, 0, OVER + 1, 0);
+    ANSWERED(edit(NULL, 0, NULL, 0, OVER, 0, 0, NULL, 0), 13, 0, OVER, 0);
+    BYTES(doc, due, sizeof doc);
+    /* done: tokens come, and tokens go */
+    static const uint32_t longer[] = {1, 4, 61, 9, 12, 165, 17, 243, 2, 2, 9, 12, 173, 2, 25, 20, 165, 2, 2};
+    static const uint32_t shorter[] = {1, 4, 61, 9, 12, 165, 17, 243, 2, 2, 2, 0, 0, 0, 0};
+    fill(due, longer, SHADE + PANEL);
+    ANSWERED(edit(table, TABLE, doc, SHADE + PANEL, SHADE, 1, 10, panel, PANEL), 0, 0, SHADE + PANEL, PANEL);
+    BYTES(doc, due, sizeof doc);
+    fill(doc, shade, SHADE);
+    fill(due, shorter, SHADE);
+    ANSWERED(edit(table, TABLE, doc, PLACES, SHADE, 2, 10, NULL, 0), 0, 0, 11, -4);
+    BYTES(doc, due, sizeof doc);
+    BYTES(table, before, sizeof table);
+}
+
+/* Lengths over 2^32: what is lent beyond the first page must not be touched. */
+static int lengths(void) {
+    uint32_t *tokens = (uint32_t *)reserve((OVER + 1) * sizeof *tokens, 1);
+    uint8_t *bytes = (uint8_t *)reserve(OVER, 1);
+    const uint64_t *words = (const uint64_t *)reserve((OVER + TABLE) * sizeof *words, 0);
+    if (!tokens || !bytes || !words) return 0;
+    COUNTED(read_file(file, FILE_LENGTH, tokens, OVER), 0, SHADE);
+    BYTES(tokens, shade, sizeof shade);
+    COUNTED(write_file(shade, SHADE, bytes, OVER), 0, FILE_LENGTH);
+    BYTES(bytes, file, FILE_LENGTH);
+    COUNTED(write_file(tokens, OVER + 1, bytes, OVER), 5, 0);
+    SAME("number", translate(schema, SCHEMA, (uint64_t *)words, OVER + TABLE), 13);
+    JUDGED(check(table, TABLE, tokens, OVER, SHADE), 0, 0);
+    JUDGED(check(words, OVER + TABLE, tokens, OVER, SHADE), 13, 0);
+    ANSWERED(edit(table, TABLE, tokens, OVER, SHADE, 2, 10, NULL, 0), 0, 0, 11, -4);
+    ANSWERED(edit(words, OVER + TABLE, tokens, OVER, 11, 2, 10, NULL, 0), 13, 0, 11, 0);
+    uint32_t doc[PLACES];
+    fill(doc, shade, SHADE);
+    tokens[0] = 9;
+    ANSWERED(edit(table, TABLE, doc, PLACES, SHADE, 2, 10, tokens, OVER), 4, 0, SHADE, 0);
+    return 1;
+}
+
+int main(void) {
+    readers();
+    writers();
+    translators();
+    checks();
+    edits();
+    if (!lengths()) return 1;
+    printf("%u compared, %u wrong\n", compared, wrong);
+    return wrong != 0;
+}
