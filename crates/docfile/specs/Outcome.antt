@@ -1,12 +1,12 @@
 -- The outcome of a call, and a list laid over a part of a buffer. Assumes nothing.
-use mathlib.Core.Path.{_≡_, ap, ap₂, _∙_}
+use mathlib.Core.Path.{_≡_, ap, _∙_}
 use mathlib.Core.List.{List, [], _++_, append-assoc}
-use Prim.Native.Nat.{ℕ, _+_, _-_, _≤_}
-use native.Mathlib.Nat.{add-assoc, zero-add}
+use Prim.Native.Nat.{ℕ, _+_, _≤_}
+use native.Mathlib.Nat.{add-assoc}
 use native.Mathlib.Omega.{arith}
 use lib.ListN.{length, take, drop, length-append, take-append-drop}
 use lib.Seq.{sets, sets-eq, take-at, drop-at, drop-drop, length-take-le}
-use Rattle.paper.specs.Files.{Result, refused, made, Counted, counted}
+use Rattle.paper.specs.Files.{Counted}
 use Rattle.docfile.specs.declared.Count.{Count}
 
 -- the answer, with every place of the buffer
@@ -16,16 +16,6 @@ outcome r buffer = record { number = r .number; count = r .count; buffer = buffe
 -- number k and count n
 abbrev pub answer : ℕ → ℕ → Count
 answer k n = record { number = k; count = n }
-
--- the answer, where n were counted before
-abbrev pub tally : ℕ → Result → Count
-tally n (refused k) = answer k 0
-tally n (made l) = answer 0 (n + length l)
-
--- what was made; nothing, where it was refused
-abbrev pub listOf : Result → List ℕ
-listOf (refused k) = []
-listOf (made l) = l
 
 -- a buffer with l in its places from `at` on
 abbrev pub laid : ℕ → List ℕ → List ℕ → List ℕ
@@ -43,8 +33,3 @@ module _ (at : ℕ) (buffer : List ℕ) where
       let n : length front ≡ at + length x = length-append (take at buffer) x ∙ ap (λ k. k + length x) (length-take-le at buffer (omega arith)) in
       rw (sets-eq x buffer at h, take-at front (drop (at + length x) buffer) (at + length x) n, drop-at front (drop (at + length x) buffer) (at + length x) n)
       (simp (append-assoc, length-append, drop-drop, add-assoc))
-
--- what was counted, and laid over the buffer's first places, is the outcome
-pub counted-is : (r : Result) (buffer : List ℕ) {after : List ℕ} → after ≡ laid 0 (listOf r) buffer → outcome (tally 0 r) after ≡ counted r buffer
-counted-is (refused k) buffer e = ap (λ b. record { number = k; count = 0; buffer = b }) e
-counted-is (made l) buffer e = ap₂ (λ n b. record { number = 0; count = n; buffer = b }) (zero-add (length l)) e

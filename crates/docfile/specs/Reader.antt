@@ -1,134 +1,163 @@
--- The passes of the reader. Assumes nothing.
+-- The passes of the reader: decoding into an array, and copying. Assumes nothing.
 use mathlib.Core.Path.{_≡_, refl, sym, ap, _∙_}
-use mathlib.Core.List.{List, [], _∷_}
-use Prim.Native.Nat.{ℕ, zero, suc, _+_, _-_, _≤_, _<_, min}
+use mathlib.Core.List.{List, [], _∷_, _++_, append-nil}
+use Prim.Native.Nat.{ℕ, suc, _+_, _-_, _≤_, _<_, min}
 use native.Mathlib.Omega.{arith}
-use native.Mathlib.Nat.{add-zero, zero-add, sub-zero}
-use lib.ListN.{length, drop, set, getD, length-set, drop-of-length-le}
-use lib.Seq.{drop-cons}
+use native.Mathlib.Nat.{sub-zero}
+use native.Mathlib.Numerals.{add-one}
+use lib.ListN.{length, take, drop, set, getD, length-take, length-set, drop-of-length-le}
+use lib.Seq.{drop-cons, take-suc, take-suc-set, length-take-le, set-at, append-snoc}
 use Rattle.paper.specs.Basics.{mostTokens}
-use Rattle.paper.specs.Files.{broken, got, front, Result, refused, made, put, tokensIn, reading, read}
+use Rattle.paper.specs.Files.{Result, refused, made, put, tokensIn, reading, counted, read}
 use Rattle.numbers.specs.At.{numAt, Stands, at-got, at-broken}
-use Rattle.numbers.specs.Laws.{tokens-next, tokens-broken, tokens-full, tokens-end, Holds, none, more, tokens-made}
+use Rattle.numbers.specs.Laws.{tokens-next, tokens-broken, tokens-full, tokens-end, tokens-made}
 use Rattle.numbers.specs.declared.Num.{Num}
 use Rattle.numbers.specs.declared.Num.the-variants.{Broken, Got}
 use Rattle.docfile.specs.declared.Count.{Count}
-use Rattle.docfile.specs.Outcome.{outcome, answer, tally, listOf, laid, lay-none, lay-more, counted-is}
+use Rattle.docfile.specs.Outcome.{outcome, answer}
 
--- the first n numbers of s; fewer where one is broken
-abbrev pub firsts : ℕ → List ℕ → List ℕ
-firsts zero s = []
-firsts (suc n) s = elim (front s) [ broken ↦ [] | got v r ↦ v ∷ firsts n r ]
+-- the answer
+abbrev pub tally : Result → Count
+tally (refused k) = answer k 0
+tally (made l) = answer 0 (length l)
 
--- ---- counting
+-- what was made; nothing, where it was refused
+abbrev pub listOf : Result → List ℕ
+listOf (refused k) = []
+listOf (made l) = l
 
--- n tokens stand before a place of the file; what is left decides the answer
-pub record Counting (file : List ℕ) (room at n : ℕ) : Type 0 where
+-- ---- decoding
+
+-- there is a place for each of `room` tokens, or for as many as the file has bytes
+pub record Roomy (file got : List ℕ) (room : ℕ) : Type 0 where
+  pub few : room ≤ mostTokens
+  pub long : min room (length file) ≤ length got
+
+-- c answers what came of reading, and the tokens read stand in the first places
+pub record Decoded (r : Result) (c : Count) (got : List ℕ) : Type 0 where
+  pub answers : c ≡ tally r
+  pub tokens : take (c .count) got ≡ listOf r
+
+-- l, and then what is made
+abbrev after : List ℕ → Result → Result
+after l (refused k) = refused k
+after l (made m) = made (l ++ m)
+
+after-none : (r : Result) → r ≡ after [] r
+after-none (refused k) = refl
+after-none (made l) = refl
+
+after-put : (l : List ℕ) (v : ℕ) (r : Result) → after l (put v r) ≡ after (l ++ (v ∷ [])) r
+after-put l v (refused k) = refl
+after-put l v (made m) = ap made (sym (append-snoc l v m))
+
+-- n tokens, those that stand before a place of the file, are in the first places; what is left of the file decides the answer
+pub record Decoding (file before : List ℕ) (room at n : ℕ) (got : List ℕ) : Type 0 where
   pub within : at ≤ length file
   pub few : n ≤ room
-  pub same : tally 0 (tokensIn room file) ≡ tally n (tokensIn (room - n) (drop at file))
+  pub slow : n ≤ at
+  pub long : length got ≡ length before
+  pub same : tokensIn room file ≡ after (take n got) (tokensIn (room - n) (drop at file))
 
-tally-put : (n v : ℕ) (r : Result) → tally n (put v r) ≡ tally (n + 1) r
-tally-put n v (refused k) = refl
-tally-put n v (made l) = ap (answer 0) (omega arith)
+module _ (file before : List ℕ) (room : ℕ) where
+  pub decode-none : Decoding file before room 0 0 before
+  decode-none = record { within = omega arith; few = omega arith; slow = omega arith; long = refl; same = rw sub-zero (after-none (tokensIn room file)) }
 
-module _ (file : List ℕ) (room : ℕ) where
-  pub count-none : Counting file room 0 0
-  count-none = record { within = omega arith; few = omega arith; same = rw sub-zero }
+  -- a refusal, whatever the places hold
+  decode-refused : {k : ℕ} {r : Count} (got : List ℕ) → tokensIn room file ≡ refused k → r ≡ answer k 0 → Decoded (tokensIn room file) r got
+  decode-refused got e q = rw (e, q) (record { answers = refl; tokens = refl })
 
-  module _ {at n : ℕ} (c : Counting file room at n) where
-    pub count-end : length file ≤ at → answer 0 n ≡ tally 0 (tokensIn room file)
-    count-end h = rw (c .same, drop-of-length-le file h, tokens-end (room - n), add-zero)
+  module _ {at n : ℕ} {got : List ℕ} (o : Roomy file before room) (c : Decoding file before room at n got) where
+    pub decode-end : length file ≤ at → Decoded (tokensIn room file) (answer 0 n) got
+    decode-end h =
+        let e : tokensIn room file ≡ made (take n got) = c .same ∙ rw (drop-of-length-le file h, tokens-end (room - n), append-nil) in
+        let k : length (take n got) ≡ n = length-take-le n got (omega (arith, o .long, c .few, c .slow, c .within, c .long)) in
+        rw e (record { answers = ap (answer 0) (sym k); tokens = refl })
 
     module _ (h : at < length file) {a : Num} (e : a ≡ numAt file at) where
-      pub count-broken : {r : Count} → a ≡ Broken → r ≡ answer 1 0 → r ≡ tally 0 (tokensIn room file)
-      count-broken b q =
-          let d : drop at file ≡ getD file at 0 ∷ drop (suc at) file = drop-cons file at 0 h in
-          rw (q, c .same, d, tokens-broken (room - n) (getD file at 0) (drop (suc at) file) (rw d at (at-broken file at .0 (sym e ∙ b))))
+      byte : drop at file ≡ getD file at 0 ∷ drop (suc at) file
+      byte = drop-cons file at 0 h
+
+      pub decode-broken : {r : Count} → a ≡ Broken → r ≡ answer 1 0 → Decoded (tokensIn room file) r got
+      decode-broken b q =
+          decode-refused got (c .same ∙ rw (byte, tokens-broken (room - n) (getD file at 0) (drop (suc at) file) (rw byte at (at-broken file at .0 (sym e ∙ b))))) q
 
       module _ {v next : ℕ} (g : a ≡ Got v next) where
         told : Stands file at v next
         told = at-got file at v next (sym e ∙ g)
 
-        pub count-less : length file - next < length file - at
-        count-less = omega (arith, told .on)
+        pub decode-less : length file - next < length file - at
+        decode-less = omega (arith, told .on)
 
-        pub count-full : {r : Count} → n ≡ room → r ≡ answer 5 0 → r ≡ tally 0 (tokensIn room file)
-        count-full f q =
-            let d : drop at file ≡ getD file at 0 ∷ drop (suc at) file = drop-cons file at 0 h in
+        pub decode-full : {r : Count} → n ≡ room → r ≡ answer 5 0 → Decoded (tokensIn room file) r got
+        decode-full f q =
             let z : room - n ≡ 0 = omega arith in
-            rw (q, c .same, z, d, tokens-full (getD file at 0) (drop (suc at) file) v (drop next file) (rw d at (told .reads)))
+            decode-refused got (c .same ∙ rw (z, byte, tokens-full (getD file at 0) (drop (suc at) file) v (drop next file) (rw byte at (told .reads)))) q
 
-        pub count-more : (n ≡ room → ⊥) → Counting file room next (n + 1)
-        count-more f =
-            let z : room - n ≡ suc (room - (n + 1)) = omega (arith, c .few) in
-            record {
-              within = told .within;
-              few = omega (arith, c .few);
-              same = c .same ∙ rw (z, tokens-next (room - (n + 1)) (drop at file) v (drop next file) (told .reads)) (tally-put n v (tokensIn (room - (n + 1)) (drop next file)));
-            }
+        module _ (f : n ≡ room → ⊥) where
+          pub decode-place : n < length got
+          decode-place = omega (arith, o .long, c .few, c .slow, c .long)
 
--- ---- putting
+          pub decode-more : Decoding file before room next (n + 1) (set got n v)
+          decode-more =
+              let z : room - n ≡ suc (room - (n + 1)) = omega (arith, c .few) in
+              let s : take (n + 1) (set got n v) ≡ take n got ++ (v ∷ []) = rw add-one (take-suc-set got n v decode-place) in
+              record {
+                within = told .within;
+                few = omega (arith, c .few);
+                slow = omega (arith, c .slow, told .on);
+                long = simp length-set (c .long);
+                same = c .same ∙ rw (z, tokens-next (room - (n + 1)) (drop at file) v (drop next file) (told .reads), s) (after-put (take n got) v (tokensIn (room - (n + 1)) (drop next file)));
+              }
 
--- i tokens of n are put, those that stand before a place of the file; what is left is laid after them
-pub record Putting (file before : List ℕ) (n at i : ℕ) (tokens : List ℕ) : Type 0 where
+-- ---- copying
+
+-- the first i of the tokens stand in the first places; those behind them are as before
+pub record Copying (from before : List ℕ) (n i : ℕ) (to : List ℕ) : Type 0 where
   pub few : i ≤ n
-  pub long : length tokens ≡ length before
-  pub same : laid 0 (firsts n file) before ≡ laid i (firsts (n - i) (drop at file)) tokens
+  pub long : length to ≡ length before
+  pub same : to ≡ take i from ++ drop i before
 
-firsts-broken : (n : ℕ) (s : List ℕ) → front s ≡ broken → firsts n s ≡ []
-firsts-broken zero s e = refl
-firsts-broken (suc n) s e = rw (e, firsts)
+module _ (from before : List ℕ) (n : ℕ) where
+  pub copy-none : Copying from before n 0 before
+  copy-none = record { few = omega arith; long = refl; same = refl }
 
-module _ (file before : List ℕ) (n : ℕ) where
-  pub put-none : Putting file before n 0 0 before
-  put-none = record { few = omega arith; long = refl; same = rw sub-zero }
+  module _ {i : ℕ} {to : List ℕ} (c : Copying from before n i to) where
+    pub copy-end : n ≤ i → to ≡ take n from ++ drop n before
+    copy-end h = let z : n ≡ i = omega (arith, c .few) in rw z (c .same)
 
-  module _ {at i : ℕ} {tokens : List ℕ} (c : Putting file before n at i tokens) where
-    pub put-end : n ≤ i → tokens ≡ laid 0 (firsts n file) before
-    put-end h = let z : n - i ≡ 0 = omega arith in rw (c .same, z, lay-none)
+    pub copy-more : i < n → n ≤ length from → n ≤ length before → Copying from before n (i + 1) (set to i (getD from i 0))
+    copy-more h k l =
+        let d : drop i before ≡ getD before i 0 ∷ drop (suc i) before = drop-cons before i 0 (omega arith) in
+        let t : length (take i from) ≡ i = length-take-le i from (omega arith) in
+        record {
+          few = omega arith;
+          long = simp length-set (c .long);
+          same =
+              rw (c .same, d, add-one, take-suc from i 0 (omega arith), set-at (take i from) (getD before i 0) (drop (suc i) before) (getD from i 0) i t)
+              (sym (append-snoc (take i from) (getD from i 0) (drop (suc i) before)));
+        }
 
-    module _ {a : Num} (e : a ≡ numAt file at) where
-      pub put-broken : a ≡ Broken → tokens ≡ laid 0 (firsts n file) before
-      put-broken b = rw (c .same, firsts-broken (n - i) (drop at file) (at-broken file at .0 (sym e ∙ b)), lay-none)
+-- ---- both
 
-      pub put-more : {v next : ℕ} → i < n → n ≤ length before → a ≡ Got v next → Putting file before n next (i + 1) (set tokens i v)
-      put-more {v} {next} h l g =
-          let z : n - i ≡ suc (n - (i + 1)) = omega arith in
-          let t : Stands file at v next = at-got file at v next (sym e ∙ g) in
-          record {
-            few = omega arith;
-            long = simp length-set (c .long);
-            same = c .same ∙ rw (z, firsts, t .reads) (lay-more i tokens (v ∷ []) (firsts (n - (i + 1)) (drop next file)) (omega (arith, c .long)));
-          }
+-- the tokens that were read have places where they were decoded ..
+pub read-held : (r : Result) {c : Count} {got : List ℕ} → Decoded r c got → c .count ≤ length got
+read-held (refused k) d = rw (d .answers) (omega arith)
+read-held (made l) {c} {got} d = omega (arith, ap (λ a. a .count) (d .answers), ap length (d .tokens), length-take (c .count) got)
 
--- ---- both passes
-
-holds-firsts : {s l : List ℕ} → Holds s l → firsts (length l) s ≡ l
-holds-firsts none = refl
-holds-firsts (more {l = l} {n = n} p q) = rw (firsts, p) (ap (λ r. n ∷ r) (holds-firsts q))
-
--- what is read, by what the first pass counted
-module _ (room : ℕ) (file : List ℕ) where
-  count-few : {c : Count} → c ≡ tally 0 (tokensIn room file) → c .count ≤ room
-  count-few e = rw e (go (tokensIn room file) refl)
+module _ (file buffer : List ℕ) {room : ℕ} (e : room ≡ min (length buffer) mostTokens) {c : Count} {got : List ℕ} (d : Decoded (tokensIn room file) c got) where
+  -- .. and in the lent buffer
+  pub read-fits : c .count ≤ length buffer
+  read-fits = rw (d .answers) (go (tokensIn room file) refl)
     where
-      go : (r : Result) → tokensIn room file ≡ r → tally 0 r .count ≤ room
+      go : (r : Result) → tokensIn room file ≡ r → tally r .count ≤ length buffer
       go (refused k) p = omega arith
       go (made l) p = omega (arith, tokens-made room file l p .1)
 
-  firsts-counted : {c : Count} → c ≡ tally 0 (tokensIn room file) → firsts (c .count) file ≡ listOf (tokensIn room file)
-  firsts-counted e = rw e (go (tokensIn room file) refl)
+  pub read-is : {now : List ℕ} → now ≡ take (c .count) got ++ drop (c .count) buffer → outcome c now ≡ read file buffer
+  unfolding read reading
+  read-is {now} q = rw (← e) (go (tokensIn room file) d)
     where
-      go : (r : Result) → tokensIn room file ≡ r → firsts (tally 0 r .count) file ≡ listOf r
-      go (refused k) p = refl
-      go (made l) p = rw zero-add (holds-firsts (tokens-made room file l p .0))
-
-pub read-fits : (file buffer : List ℕ) {room : ℕ} {c : Count} → room ≡ min (length buffer) mostTokens → c ≡ tally 0 (tokensIn room file) → c .count ≤ length buffer
-read-fits file buffer {room} e p = omega (arith, count-few room file p)
-
-pub read-is : (file buffer : List ℕ) {room : ℕ} {c : Count} {after : List ℕ} → room ≡ min (length buffer) mostTokens → c ≡ tally 0 (tokensIn room file)
-    → after ≡ laid 0 (firsts (c .count) file) buffer → outcome c after ≡ read file buffer
-unfolding read reading
-read-is file buffer {room} e p q =
-    rw (p, ← e) (counted-is (tokensIn room file) buffer (q ∙ ap (λ l. laid 0 l buffer) (firsts-counted room file p)))
+      go : (r : Result) → Decoded r c got → outcome c now ≡ counted r buffer
+      go (refused k) d = rw (q, d .answers)
+      go (made l) d = rw (q, d .tokens, d .answers)

@@ -1,20 +1,22 @@
 // Document files: the tokens of a document as seven-bit numbers and nothing else.
 //
-// Each call goes over its input first, without writing, and so knows its answer before it writes: a refused call leaves the
-// lent buffer as it was. Nothing is asked of either slice. The document's tree is not judged.
+// Each call knows its answer before it writes: a refused call leaves the lent buffer as it was. The reader decodes into an array of its
+// own and copies; the writer first goes over its tokens without writing. Nothing is asked of either slice. The document's tree is not
+// judged.
 // Assumes nothing.
 use numbers::Num;
 use numbers::number_at;
 use numbers::put_number;
 use numbers::width;
 ghost use mathlib.Core.Path.{_≡_};
+ghost use mathlib.Core.List.{_++_};
 ghost use Prim.Native.Nat.{_≤_, max, min};
-ghost use lib.ListN.{length};
+ghost use lib.ListN.{length, take, drop};
 ghost use Rattle.paper.specs.Basics.{mostTokens};
 ghost use Rattle.paper.specs.Files.{fileOf, tokensIn};
 ghost use Rattle.paper.specs.Files;
-ghost use Rattle.docfile.specs.Outcome.{outcome, answer, tally, laid};
-ghost use Rattle.docfile.specs.Reader.{firsts};
+ghost use Rattle.docfile.specs.Outcome.{outcome, answer, laid};
+ghost use Rattle.docfile.specs.Reader.{Roomy, Decoded};
 ghost use Rattle.docfile.specs.Writer.{highestOf, Ready};
 
 // The answer's number, 0 when done, and how many tokens were read or bytes written.
@@ -30,72 +32,82 @@ fn refusal(number: u32) -> Count
     Count { number, count: 0 }
 }
 
-// How many tokens the file holds, or why it is refused where there are `room` places.
-fn count_tokens(file: &[u8], room: u32) -> Count
-    ensures { λ r. ⌜ r ≡ tally 0 (tokensIn room (now (file .entry))) ⌝ }
+// The tokens of the file go into the first places of `got`, and the answer counts them; or it says why the file is refused where there are
+// `room` places, and `got` is of no use.
+fn decode(file: &[u8], got: &mut [u32], room: usize) -> Count
+    requires { ⌜ Roomy (now file) (now got) room ⌝ }
+    ensures { λ r. ⌜ Decoded (tokensIn room (now (file .entry))) r (now (got .exit)) ⌝ }
 {
     let mut at: usize = 0;
-    let mut n: u32 = 0;
+    let mut held: usize = 0;
     while at < file.len() {
         match number_at(file, at) {
             Num::Broken => {
                 return refusal(1);
             }
-            Num::Got { value: _, next } => {
-                if n == room {
+            Num::Got { value, next } => {
+                if held == room {
                     return refusal(5);
                 }
-                n += 1;
+                got[held] = value;
+                held += 1;
                 at = next;
             }
         }
     }
     Count {
         number: 0,
-        count: n,
+        count: held as u32,
     }
 }
 
-// The first n tokens of the file go into the buffer; fewer where one is broken.
-fn put_tokens(file: &[u8], tokens: &mut [u32], n: usize)
-    requires { ⌜ n ≤ length (now tokens) ⌝ }
-    ensures { λ _. ⌜ now (tokens .exit) ≡ laid 0 (firsts n (now (file .entry))) (now (tokens .entry)) ⌝ }
+// The first n tokens of one slice go into the first places of another.
+fn copy(from: &[u32], to: &mut [u32], n: usize)
+    requires { ⌜ (n ≤ length (now from)) × (n ≤ length (now to)) ⌝ }
+    ensures { λ _. ⌜ now (to .exit) ≡ take n (now (from .entry)) ++ drop n (now (to .entry)) ⌝ }
 {
-    let mut at: usize = 0;
     let mut i: usize = 0;
     while i < n {
-        match number_at(file, at) {
-            Num::Broken => {
-                return;
-            }
-            Num::Got { value, next } => {
-                tokens[i] = value;
-                i += 1;
-                at = next;
-            }
-        }
+        to[i] = from[i];
+        i += 1;
     }
 }
 
 // "no place, in the lent buffer or past 8,192"
-fn places(len: usize) -> u32
+fn places(len: usize) -> usize
     ensures { λ r. ⌜ r ≡ min len mostTokens ⌝ }
 {
     if len < 8192 {
-        return len as u32;
+        return len;
     }
     8192
 }
+
+// Reads the file by way of `got`, which has a place for every token that may come.
+fn read_by(file: &[u8], tokens: &mut [u32], got: &mut [u32]) -> Count
+    requires { ⌜ min (length (now file)) mostTokens ≤ length (now got) ⌝ }
+    ensures { λ r. ⌜ outcome r (now (tokens .exit)) ≡ Files.read (now (file .entry)) (now (tokens .entry)) ⌝ }
+{
+    let room = places(tokens.len());
+    let c = decode(file, got, room);
+    let n = c.count as usize;
+    copy(got, tokens, n);
+    c
+}
+
+// A file has no more tokens than bytes. One of so many bytes or fewer is read by way of a short array, which is sooner made.
+const SHORT: usize = 512;
 
 // Reads the file into the first places of the buffer.
 pub fn read(file: &[u8], tokens: &mut [u32]) -> Count
     ensures { λ r. ⌜ outcome r (now (tokens .exit)) ≡ Files.read (now (file .entry)) (now (tokens .entry)) ⌝ }
 {
-    let room = places(tokens.len());
-    let c = count_tokens(file, room);
-    let n = c.count as usize;
-    put_tokens(file, tokens, n);
-    c
+    if file.len() <= SHORT {
+        let mut few = [0u32; SHORT];
+        return read_by(file, tokens, &mut few);
+    }
+    let mut many = [0u32; paper::MOST_TOKENS];
+    read_by(file, tokens, &mut many)
 }
 
 // The larger of two tokens.

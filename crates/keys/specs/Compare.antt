@@ -3,10 +3,9 @@ use mathlib.Core.Path.{_≡_, refl, sym, ap, _∙_}
 use mathlib.Core.Bool.{Bool, true, false, not, _||_}
 use mathlib.Core.List.{List, [], _∷_}
 use Prim.Native.Nat.{ℕ, zero, suc, _+_, _≤_, _<_}
-use native.Mathlib.Decide.{decLt}
 use native.Mathlib.Numerals.{add-one}
 use native.Mathlib.Omega.{arith}
-use borrow.Author.Tests.{eq-eqb, ne-eqb, not-true, not-false}
+use borrow.Author.Tests.{eqb-true, eqb-false, eq-eqb, ne-eqb, not-true, not-false}
 use lib.Dec.{eqb}
 use lib.ListN.{length, take, getD}
 use lib.Seq.{slice, slice-cons, slice-empty}
@@ -21,6 +20,23 @@ faultOf number place = record { number = number; place = place }
 abbrev pub answerOf : Fault → Answer
 answerOf f = (f .number, f .place)
 
+or-swap : (a b : Bool) → (a || b) ≡ (b || a)
+or-swap true true = refl
+or-swap true false = refl
+or-swap false true = refl
+or-swap false false = refl
+
+or-assoc : (a b c : Bool) → ((a || b) || c) ≡ (a || (b || c))
+or-assoc true b c = refl
+or-assoc false b c = refl
+
+eqb-swap : (a b : ℕ) → eqb a b ≡ eqb b a
+eqb-swap a b = go (eqb a b) refl
+  where
+    go : (t : Bool) → eqb a b ≡ t → t ≡ eqb b a
+    go true e = sym (eq-eqb b a (sym (eqb-true a b e)))
+    go false e = sym (ne-eqb b a (λ q. eqb-false a b e (sym q)))
+
 -- ---- an ID that is met twice
 
 -- the values of the first i keys, the last of them first
@@ -28,38 +44,26 @@ abbrev pub met : List ℕ → ℕ → List ℕ
 met ids zero = []
 met ids (suc i) = keyValue (getD ids i 0) ∷ met ids i
 
-met-also : (ids : List ℕ) (v i j : ℕ) → j < i → v ≡ keyValue (getD ids j 0) → elem v (met ids i) ≡ true
-met-also ids v zero j h e = absurd (omega arith)
-met-also ids v (suc i) j h e = elim (decLt j i) [
-  | yes l ↦ rw (met-also ids v i j l e) (or-true (eqb v (keyValue (getD ids i 0))))
-  | no l ↦ let q : j ≡ i = omega arith in rw (eq-eqb v (keyValue (getD ids i 0)) (rw q at e))
-]
-  where
-    or-true : (b : Bool) → (b || true) ≡ true
-    or-true true = refl
-    or-true false = refl
-
 -- no key before the i-th is met twice
 pub record Looking (ids : List ℕ) (n i : ℕ) (fault : Fault) : Type 0 where
   pub within : i ≤ n
   pub none : fault ≡ faultOf 0 0
   pub same : repeated (met ids i) (keysIn (slice i n ids)) ≡ repeated [] (keysIn (take n ids))
 
--- none of the first j keys has the value
-pub record Comparing (ids : List ℕ) (i value j : ℕ) (fault : Fault) : Type 0 where
+-- found: one of the first j keys has the value
+pub record Comparing (ids : List ℕ) (i value j : ℕ) (found : Bool) : Type 0 where
   pub within : j ≤ i
-  pub none : fault ≡ faultOf 0 0
-  pub apart : elem value (met ids j) ≡ false
+  pub told : found ≡ elem value (met ids j)
 
-pub compare-none : (ids : List ℕ) (i value : ℕ) {fault : Fault} → fault ≡ faultOf 0 0 → Comparing ids i value 0 fault
-compare-none ids i value e = record { within = omega arith; none = e; apart = refl }
+pub compare-none : (ids : List ℕ) (i value : ℕ) → Comparing ids i value 0 false
+compare-none ids i value = record { within = omega arith; told = refl }
 
-pub compare-more : (ids : List ℕ) {i value j : ℕ} {fault : Fault} → Comparing ids i value j fault
-    → j < i → (keyValue (getD ids j 0) ≡ value → ⊥) → Comparing ids i value (j + 1) fault
-compare-more ids {i} {value} {j} c h f = record {
+pub compare-more : (ids : List ℕ) {i value j : ℕ} {found : Bool} → Comparing ids i value j found
+    → j < i → Comparing ids i value (j + 1) (found || eqb (keyValue (getD ids j 0)) value)
+compare-more ids {i} {value} {j} {found} c h = record {
   within = omega arith;
-  none = c .none;
-  apart = rw (add-one, ne-eqb value (keyValue (getD ids j 0)) (λ e. f (sym e))) (c .apart);
+  told = rw add-one (rw (or-swap found (eqb (keyValue (getD ids j 0)) value), eqb-swap (keyValue (getD ids j 0)) value)
+      (ap (λ b. eqb value (keyValue (getD ids j 0)) || b) (c .told)));
 }
 
 pub look-none : (ids : List ℕ) (n : ℕ) → Looking ids n 0 (faultOf 0 0)
@@ -71,17 +75,44 @@ module _ (ids : List ℕ) (n : ℕ) {i : ℕ} {fault : Fault} (l : Looking ids n
       let q : i ≡ n = omega (arith, l .within) in
       ap answerOf (l .none) ∙ rw (q, slice-empty n ids) at (l .same)
 
-  module _ (h : i < n) (g : n ≤ length ids) {value : ℕ} (v : value ≡ keyValue (getD ids i 0)) where
-    pub look-more : {j : ℕ} → Comparing ids i value j fault → i ≤ j → Looking ids n (i + 1) fault
-    look-more {j} c k =
-        let q : i ≡ j = omega (arith, c .within) in
-        let a : elem (keyValue (getD ids i 0)) (met ids i) ≡ false = rw (← v, q) (c .apart) in
-        record { within = omega arith; none = c .none; same = rw add-one (rw (slice-cons i n ids 0 h g, a) at (l .same)) }
+  module _ (h : i < n) (g : n ≤ length ids) {value : ℕ} (v : value ≡ keyValue (getD ids i 0)) {j : ℕ} {found : Bool}
+      (c : Comparing ids i value j found) (k : i ≤ j) where
+    all-told : found ≡ elem (keyValue (getD ids i 0)) (met ids i)
+    all-told = let q : i ≡ j = omega (arith, c .within) in rw (← v, q) (c .told)
 
-    pub look-found : {j : ℕ} → j < i → keyValue (getD ids j 0) ≡ value → (11, keyPlace (getD ids i 0)) ≡ repeated [] (keysIn (take n ids))
-    look-found {j} k e =
-        let a : elem (keyValue (getD ids i 0)) (met ids i) ≡ true = met-also ids (keyValue (getD ids i 0)) i j k (sym v ∙ sym e) in
-        rw (slice-cons i n ids 0 h g, a) at (l .same)
+    pub look-more : found ≡ false → Looking ids n (i + 1) fault
+    look-more e = record {
+      within = omega arith;
+      none = l .none;
+      same = rw add-one (rw (slice-cons i n ids 0 h g, sym all-told ∙ e) at (l .same));
+    }
+
+    pub look-found : found ≡ true → (11, keyPlace (getD ids i 0)) ≡ repeated [] (keysIn (take n ids))
+    look-found e = rw (slice-cons i n ids 0 h g, sym all-told ∙ e) at (l .same)
+
+-- ---- a value among the keys of a part
+
+-- found: a key of the part before the i-th has the value
+pub record Noting (ids : List ℕ) (from to value : ℕ) (found : Bool) (i : ℕ) : Type 0 where
+  pub within : i ≤ to
+  pub same : (found || elem value (valuesIn (slice i to ids))) ≡ elem value (valuesIn (slice from to ids))
+
+pub note-none : (ids : List ℕ) (from to value : ℕ) → from ≤ to → Noting ids from to value false from
+note-none ids from to value h = record { within = h; same = refl }
+
+module _ (ids : List ℕ) (from to value : ℕ) {found : Bool} {i : ℕ} (s : Noting ids from to value found i) where
+  pub note-more : i < to → to ≤ length ids → Noting ids from to value (found || eqb (keyValue (getD ids i 0)) value) (i + 1)
+  note-more h g =
+      let k : ℕ = keyValue (getD ids i 0) in
+      let rest : Bool = elem value (valuesIn (slice (suc i) to ids)) in
+      record {
+        within = omega arith;
+        same = rw add-one (ap (λ b. (found || b) || rest) (eqb-swap k value) ∙ or-assoc found (eqb value k) rest
+            ∙ rw (slice-cons i to ids 0 h g) at (s .same));
+      }
+
+  pub note-end : to ≤ i → found ≡ elem value (valuesIn (slice from to ids))
+  note-end h = let q : i ≡ to = omega (arith, s .within) in or-swap false found ∙ rw (q, slice-empty to ids) at (s .same)
 
 -- ---- a value among the IDs
 
@@ -93,19 +124,33 @@ pub record Seeking (ids : List ℕ) (n value i : ℕ) : Type 0 where
 pub seek-none : (ids : List ℕ) (n value : ℕ) → Seeking ids n value 0
 seek-none ids n value = record { within = omega arith; same = refl }
 
+-- a value that stands among the keys from the i-th on stands before the e-th or from there on
+in-parts : (value : ℕ) (ids : List ℕ) (i e n : ℕ) → i ≤ e → e ≤ n
+    → elem value (valuesIn (slice i n ids)) ≡ (elem value (valuesIn (slice i e ids)) || elem value (valuesIn (slice e n ids)))
+in-parts value ids zero zero n h g = refl
+in-parts value ids (suc i) zero n h g = absurd (omega arith)
+in-parts value ids i (suc e) zero h g = absurd (omega arith)
+in-parts value [] zero (suc e) (suc n) h g = refl
+in-parts value [] (suc i) (suc e) (suc n) h g = refl
+in-parts value (x ∷ ids) (suc i) (suc e) (suc n) h g = in-parts value ids i e n (omega arith) (omega arith)
+in-parts value (x ∷ ids) zero (suc e) (suc n) h g =
+    ap (λ b. eqb value (keyValue x) || b) (in-parts value ids zero e n (omega arith) (omega arith))
+    ∙ sym (or-assoc (eqb value (keyValue x)) (elem value (valuesIn (take e ids))) (elem value (valuesIn (slice e n ids))))
+
 module _ (ids : List ℕ) (n value : ℕ) {i : ℕ} (s : Seeking ids n value i) where
   pub seek-end : n ≤ i → false ≡ elem value (valuesIn (take n ids))
   seek-end h = let q : i ≡ n = omega (arith, s .within) in rw (q, slice-empty n ids) at (s .same)
 
-  module _ (h : i < n) (g : n ≤ length ids) where
-    pub seek-found : keyValue (getD ids i 0) ≡ value → true ≡ elem value (valuesIn (take n ids))
-    seek-found e = rw (slice-cons i n ids 0 h g, eq-eqb value (keyValue (getD ids i 0)) (sym e)) at (s .same)
+  -- the part from the i-th key to the e-th was looked at
+  module _ {e : ℕ} (h : i < e) (g : e ≤ n) {b : Bool} (q : b ≡ elem value (valuesIn (slice i e ids))) where
+    parts : (b || elem value (valuesIn (slice e n ids))) ≡ elem value (valuesIn (take n ids))
+    parts = ap (λ x. x || elem value (valuesIn (slice e n ids))) q ∙ sym (in-parts value ids i e n (omega arith) g) ∙ s .same
 
-    pub seek-more : (keyValue (getD ids i 0) ≡ value → ⊥) → Seeking ids n value (i + 1)
-    seek-more f = record {
-      within = omega arith;
-      same = rw add-one (rw (slice-cons i n ids 0 h g, ne-eqb value (keyValue (getD ids i 0)) (λ e. f (sym e))) at (s .same));
-    }
+    pub seek-found : b ≡ true → true ≡ elem value (valuesIn (take n ids))
+    seek-found t = rw t at parts
+
+    pub seek-more : b ≡ false → Seeking ids n value e
+    seek-more t = record { within = g; same = rw t at parts }
 
 -- ---- a reference that is no ID
 

@@ -10,6 +10,7 @@ ghost use mathlib.Core.Bool.{true};
 ghost use mathlib.Core.List.{[]};
 ghost use Prim.Native.Nat.{_≤_, _<_};
 ghost use lib.ListN.{length, take};
+ghost use lib.Seq.{slice};
 ghost use Rattle.paper.specs.Basics.{mostTokens, elem};
 ghost use Rattle.paper.specs.Sets.{bit};
 ghost use Rattle.paper.specs.Table.{proper};
@@ -22,6 +23,9 @@ ghost use Rattle.keys.specs.Gather.{Kept, Gathers};
 
 // "the number at most 65,535": values are below this.
 const VALUES: u32 = 65536;
+
+// A reference is compared with so many IDs before it is asked whether one was equal.
+const PART: usize = 64;
 
 // The answer's number and place; 0 and 0: no fault.
 pub struct Fault {
@@ -115,7 +119,8 @@ fn gather(table: &[u64], doc: &[u32], used: usize, ids: &mut [u32], refs: &mut [
     Gathered { ids: n, refs: m }
 }
 
-// "an ID value met earlier as an ID (11, place of the later value token)": of the first n keys.
+// "an ID value met earlier as an ID (11, place of the later value token)": of the first n keys. The inner loop has no branch, so that
+// many keys are compared at a time; the label is taken at the first ID that was met.
 fn repeated_id(ids: &[u32], n: usize) -> Fault
     requires { ⌜ n ≤ length (now ids) ⌝ }
     ensures { λ r. ⌜ (r .number, r .place) ≡ repeated [] (keysIn (take n (now (ids .entry)))) ⌝ }
@@ -127,33 +132,61 @@ fn repeated_id(ids: &[u32], n: usize) -> Fault
     let mut i: usize = 0;
     'ids: while i < n {
         let value = ids[i] % VALUES;
+        let mut met = false;
         let mut j: usize = 0;
         while j < i {
-            if ids[j] % VALUES == value {
-                fault = Fault {
-                    number: 11,
-                    place: ids[i] / VALUES,
-                };
-                break 'ids;
-            }
+            met |= ids[j] % VALUES == value;
             j += 1;
+        }
+        if met {
+            fault = Fault {
+                number: 11,
+                place: ids[i] / VALUES,
+            };
+            break 'ids;
         }
         i += 1;
     }
     fault
 }
 
-// One of the first n keys has the value.
+// One of the keys from `from` up to `to`, that one left out, has the value. The loop has no branch.
+fn has_value(ids: &[u32], from: usize, to: usize, value: u32) -> bool
+    requires { ⌜ (from ≤ to) × (to ≤ length (now ids)) ⌝ }
+    ensures { λ r. ⌜ r ≡ elem value (valuesIn (slice from to (now (ids .entry)))) ⌝ }
+{
+    let mut found = false;
+    let mut i = from;
+    while i < to {
+        found |= ids[i] % VALUES == value;
+        i += 1;
+    }
+    found
+}
+
+// Where a part of n keys that begins at i ends: after PART keys, or at n.
+fn part_end(i: usize, n: usize) -> usize
+    requires { ⌜ i < n ⌝ }
+    ensures { λ r. ⌜ (i < r) × (r ≤ n) ⌝ }
+{
+    if n - i < PART {
+        return n;
+    }
+    i + PART
+}
+
+// One of the first n keys has the value. The parts after the first that has it are not looked at.
 fn is_id(ids: &[u32], n: usize, value: u32) -> bool
     requires { ⌜ n ≤ length (now ids) ⌝ }
     ensures { λ r. ⌜ r ≡ elem value (valuesIn (take n (now (ids .entry)))) ⌝ }
 {
     let mut i: usize = 0;
     while i < n {
-        if ids[i] % VALUES == value {
+        let end = part_end(i, n);
+        if has_value(ids, i, end, value) {
             return true;
         }
-        i += 1;
+        i = end;
     }
     false
 }

@@ -1,11 +1,7 @@
 -- `docfile::places` meets its contract. Assumes nothing.
 use native.Mathlib.Omega.{arith}
-use borrow.Author.Needs.{needs}
 use Rattle.docfile.proofs.places.Statement.{statement}
 use Rattle.docfile.proofs.places.Tie as tie
-
-cast-result : tie.Need-cast-result
-cast-result c = search needs
 
 returns : tie.Need-returns
 returns c = omega arith
@@ -14,4 +10,4 @@ returns-2 : tie.Need-returns-2
 returns-2 c = omega arith
 
 pub places-spec : {M : Type 1} → statement M
-places-spec = tie.close (tie.spec cast-result returns returns-2)
+places-spec = tie.close (tie.spec returns returns-2)

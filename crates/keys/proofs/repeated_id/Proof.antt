@@ -1,17 +1,16 @@
 -- `keys::repeated_id` meets its contract. The invariants are `Looking` and, of the inner loop, `Comparing`; the measures are how many
 -- keys are left. Assumes nothing.
 use Prim.Native.Nat.{_-_}
-use native.Mathlib.Omega.{arith}
 use borrow.Author.Needs.{needs}
 use Rattle.keys.specs.Compare.{Looking, Comparing, compare-none, compare-more, look-none, look-end, look-more, look-found}
 use Rattle.keys.proofs.repeated_id.Statement.{statement}
 use Rattle.keys.proofs.repeated_id.Tie as tie
 
 abbrev Inv-loop : tie.InvT-loop
-Inv-loop ids n fault₀ i value j₀ fault j = Comparing ids i value j fault
+Inv-loop ids n fault i value met₀ j₀ met j = Comparing ids i value j met
 
 abbrev μ-loop : tie.MeasureT-loop
-μ-loop ids n fault₀ i value j₀ fault j = i - j
+μ-loop ids n fault i value met₀ j₀ met j = i - j
 
 abbrev Inv-ids : tie.InvT-ids
 Inv-ids ids n fault₀ i₀ fault i = Looking ids n i fault
@@ -31,17 +30,11 @@ shared-slice-read-value c = search needs
 loop-holds : tie.Need-loop-holds Inv-loop μ-loop Inv-ids μ-ids
 loop-holds c = search compare-none
 
-mul-if1 : tie.Need-mul-if1 Inv-loop μ-loop Inv-ids μ-ids
-mul-if1 c = search needs
+mul-met : tie.Need-mul-met Inv-loop μ-loop Inv-ids μ-ids
+mul-met c = search needs
 
-shared-slice-read-if1 : tie.Need-shared-slice-read-if1 Inv-loop μ-loop Inv-ids μ-ids
-shared-slice-read-if1 c = search needs
-
-mul-t16 : tie.Need-mul-t16 Inv-loop μ-loop Inv-ids μ-ids
-mul-t16 c = search needs
-
-shared-slice-read-t18 : tie.Need-shared-slice-read-t18 Inv-loop μ-loop Inv-ids μ-ids
-shared-slice-read-t18 c = search needs
+shared-slice-read-met : tie.Need-shared-slice-read-met Inv-loop μ-loop Inv-ids μ-ids
+shared-slice-read-met c = search needs
 
 add-j : tie.Need-add-j Inv-loop μ-loop Inv-ids μ-ids
 add-j c = search needs
@@ -50,9 +43,13 @@ loop-less : tie.Need-loop-less Inv-loop μ-loop Inv-ids μ-ids
 loop-less c = search needs
 
 loop-again : tie.Need-loop-again Inv-loop μ-loop Inv-ids μ-ids
-loop-again c =
-    let l = c .before .before .before in
-    compare-more _ (l .loop .inv) (omega arith) (c .if1 .left)
+loop-again c = search compare-more
+
+mul-t17 : tie.Need-mul-t17 Inv-loop μ-loop Inv-ids μ-ids
+mul-t17 c = search needs
+
+shared-slice-read-t19 : tie.Need-shared-slice-read-t19 Inv-loop μ-loop Inv-ids μ-ids
+shared-slice-read-t19 c = search needs
 
 add-i : tie.Need-add-i Inv-loop μ-loop Inv-ids μ-ids
 add-i c = search needs
@@ -81,13 +78,13 @@ repeated-id-spec =
     mul-value
     shared-slice-read-value
     loop-holds
-    mul-if1
-    shared-slice-read-if1
-    mul-t16
-    shared-slice-read-t18
+    mul-met
+    shared-slice-read-met
     add-j
     loop-less
     loop-again
+    mul-t17
+    shared-slice-read-t19
     add-i
     ids-less
     ids-again

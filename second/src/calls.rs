@@ -1,0 +1,161 @@
+//! Runs a case: lends its memory, calls, and compares all with the outcome that the paper says.
+
+use crate::library;
+use crate::memory::{bytes_of, Lender, Side};
+use second::case::{Case, Memory, Outcome, Said};
+use second::paper::edits::Answer;
+use second::paper::judgement::Verdict;
+use second::paper::program::Files;
+use second::saved;
+use std::fs;
+use std::path::{Path, PathBuf};
+use std::process::Command;
+
+/// A piece of lent memory: its name, the width of its numbers, and its bytes.
+struct Lent<'a> {
+    name: &'static str,
+    width: usize,
+    bytes: &'a [u8],
+}
+
+fn lent<'a, T: Copy>(name: &'static str, numbers: &'a [T]) -> Lent<'a> {
+    Lent { name, width: std::mem::size_of::<T>(), bytes: bytes_of(numbers) }
+}
+
+/// The memory of a case, in the order of the call. What is lent for writing is the second.
+fn memory_of(case: &Case) -> Vec<Lent<'_>> {
+    match case {
+        Case::Read { file, buffer } => vec![lent("file", file), lent("buffer", buffer)],
+        Case::Write { tokens, buffer } => vec![lent("tokens", tokens), lent("buffer", buffer)],
+        Case::Translate { file, buffer } => vec![lent("file", file), lent("table", buffer)],
+        Case::Check { table, doc, .. } => vec![lent("table", &table.words), lent("document", doc)],
+        Case::Edit { table, doc, edit, .. } => {
+            vec![lent("table", &table.words), lent("document", doc), lent("piece", &edit.piece)]
+        }
+        Case::Program(_) => vec![],
+    }
+}
+
+fn after_bytes(memory: &Memory) -> Option<&[u8]> {
+    match memory {
+        Memory::None => None,
+        Memory::Bytes(bytes) => Some(bytes),
+        Memory::Tokens(tokens) => Some(bytes_of(tokens)),
+        Memory::Words(words) => Some(bytes_of(words)),
+    }
+}
+
+/// What is called: the library, and the edit program if there is one.
+pub struct Caller {
+    lenders: Vec<Lender>,
+    program: Option<PathBuf>,
+    folder: PathBuf,
+}
+
+impl Caller {
+    pub fn new(program: Option<PathBuf>) -> Caller {
+        let folder = std::env::temp_dir().join(format!("second-{}", std::process::id()));
+        Caller { lenders: (0..3).map(|_| Lender::new()).collect(), program, folder }
+    }
+
+    /// Runs a case; in words, all that differs from the outcome.
+    pub fn compare(&mut self, case: &Case, sides: u8, expected: &Outcome) -> Vec<String> {
+        let memory = memory_of(case);
+        let mut at = [std::ptr::null_mut(); 3];
+        for (k, lent) in memory.iter().enumerate() {
+            let side = if sides >> k & 1 == 1 { Side::Front } else { Side::End };
+            at[k] = self.lenders[k].lend(lent.bytes, side);
+        }
+        let mut differences = Vec::new();
+        match self.call(case, at) {
+            Ok(said) if said == expected.said => {}
+            Ok(said) => differences.push(format!("got {}", in_words(&said))),
+            Err(trouble) => differences.push(trouble),
+        }
+        for (k, lent) in memory.iter().enumerate() {
+            let after = match after_bytes(&expected.after) {
+                Some(after) if k == 1 => after,
+                _ => lent.bytes,
+            };
+            if let Some((byte, got)) = self.lenders[k].difference(after) {
+                let (place, byte_of) = (byte / lent.width, byte % lent.width);
+                let wanted = after[byte];
+                differences.push(format!("{} place {place}, byte {byte_of} of it: expected {wanted}, got {got}", lent.name));
+            }
+            if let Some(byte) = self.lenders[k].outside() {
+                differences.push(format!("written outside {}: byte {byte} from its begin", lent.name));
+            }
+        }
+        differences
+    }
+
+    fn call(&self, case: &Case, at: [*mut u8; 3]) -> Result<Said, String> {
+        // Each pointer is that of a buffer just lent, of the length given.
+        Ok(unsafe {
+            match case {
+                Case::Read { file, buffer } => {
+                    let said = library::shrike_read(at[0], file.len(), at[1] as *mut u32, buffer.len());
+                    Said::Count { number: said.number, count: said.count }
+                }
+                Case::Write { tokens, buffer } => {
+                    let said = library::shrike_write(at[0] as *const u32, tokens.len(), at[1], buffer.len());
+                    Said::Count { number: said.number, count: said.count }
+                }
+                Case::Translate { file, buffer } => {
+                    Said::Number(library::shrike_translate(at[0], file.len(), at[1] as *mut u64, buffer.len()))
+                }
+                Case::Check { table, doc, used } => {
+                    let (words, room) = (table.words.len(), doc.len());
+                    let said = library::shrike_check(at[0] as *const u64, words, at[1] as *const u32, room, *used);
+                    Said::Verdict(Verdict { number: said.number, place: said.place })
+                }
+                Case::Edit { table, doc, used, edit } => {
+                    let said = library::shrike_edit(
+                        at[0] as *const u64,
+                        table.words.len(),
+                        at[1] as *mut u32,
+                        doc.len(),
+                        *used,
+                        edit.operation,
+                        edit.place,
+                        at[2] as *const u32,
+                        edit.piece.len(),
+                    );
+                    Said::Answer(Answer { number: said.number, place: said.place, used: said.used, change: said.change })
+                }
+                Case::Program(files) => return self.run_program(files),
+            }
+        })
+    }
+
+    /// Runs the edit program in a fresh folder that holds its files.
+    fn run_program(&self, files: &Files) -> Result<Said, String> {
+        let program = self.program.as_ref().ok_or("no edit program is given (--program)")?;
+        let printed = prepared(&self.folder, files).and_then(|()| Command::new(program).current_dir(&self.folder).output());
+        let cleared = fs::remove_dir_all(&self.folder);
+        let output = printed.map_err(|trouble| format!("the edit program cannot be run: {trouble}"))?;
+        cleared.map_err(|trouble| format!("its folder cannot be removed: {trouble}"))?;
+        match output.status.code() {
+            Some(_) => Ok(Said::Printed(output.stdout)),
+            None => Err(format!("the edit program ended by {}", output.status)),
+        }
+    }
+}
+
+fn prepared(folder: &Path, files: &Files) -> std::io::Result<()> {
+    fs::create_dir(folder)?;
+    saved::save_files(folder, files)
+}
+
+/// What was said, in words.
+pub fn in_words(said: &Said) -> String {
+    match said {
+        Said::Count { number, count } => format!("number {number}, count {count}"),
+        Said::Number(number) => format!("number {number}"),
+        Said::Verdict(verdict) => format!("number {}, place {}", verdict.number, verdict.place),
+        Said::Answer(answer) => {
+            format!("number {}, place {}, used {}, change {}", answer.number, answer.place, answer.used, answer.change)
+        }
+        Said::Printed(text) => format!("{:?}", String::from_utf8_lossy(text)),
+    }
+}

@@ -1,0 +1,201 @@
+//! A case: one call with all that is lent to it, and what the paper says of it.
+
+use crate::paper::edits::{self, Answer, Edit};
+use crate::paper::grammar::Grammar;
+use crate::paper::judgement::{self, Verdict};
+use crate::paper::program::{self, Files};
+use crate::paper::{answer, numbers, schema_file, table};
+use std::rc::Rc;
+
+/// A table to be lent. `grammar` is what it asks for, None if it is not proper; `schema` is the file it was translated from.
+#[derive(Debug)]
+pub struct Table {
+    pub words: Vec<u64>,
+    pub grammar: Option<Grammar>,
+    pub schema: Option<Vec<u8>>,
+}
+
+impl Table {
+    /// The table of a schema; its models are judged by their expressions.
+    pub fn of_schema(grammar: Grammar) -> Table {
+        let words = table::of(&grammar);
+        let schema = numbers::file_of(&schema_file::numbers_of(&grammar));
+        Table { words, grammar: Some(grammar), schema: Some(schema) }
+    }
+
+    /// Any table, judged by its words.
+    pub fn of_words(words: Vec<u64>) -> Table {
+        Table { grammar: table::grammar_of(&words), words, schema: None }
+    }
+}
+
+/// A call and its inputs. A `buffer` and the document of an edit are lent for writing; all else only for reading.
+#[derive(Clone, Debug)]
+pub enum Case {
+    Read { file: Vec<u8>, buffer: Vec<u32> },
+    Write { tokens: Vec<u32>, buffer: Vec<u8> },
+    Translate { file: Vec<u8>, buffer: Vec<u64> },
+    Check { table: Rc<Table>, doc: Vec<u32>, used: u64 },
+    Edit { table: Rc<Table>, doc: Vec<u32>, used: u64, edit: Edit },
+    Program(Files),
+}
+
+/// What a call says.
+#[derive(Clone, Debug, PartialEq)]
+pub enum Said {
+    Count { number: u32, count: u32 },
+    Number(u32),
+    Verdict(Verdict),
+    Answer(Answer),
+    Printed(Vec<u8>),
+}
+
+/// The contents of lent memory.
+#[derive(Clone, Debug, PartialEq)]
+pub enum Memory {
+    None,
+    Bytes(Vec<u8>),
+    Tokens(Vec<u32>),
+    Words(Vec<u64>),
+}
+
+/// What holds after a call: what it says, and the memory lent for writing. All other memory is as it was.
+#[derive(Clone, Debug)]
+pub struct Outcome {
+    pub said: Said,
+    pub after: Memory,
+    /// What is counted: the kinds of answer and their numbers.
+    pub counted: Vec<(&'static str, u32)>,
+}
+
+impl Case {
+    /// The outcome by the paper.
+    pub fn outcome(&self) -> Outcome {
+        match self {
+            Case::Read { file, buffer } => {
+                let (number, tokens) = split(numbers::read(file, buffer.len()));
+                let after = Memory::Tokens(over(buffer, &tokens));
+                outcome(Said::Count { number, count: tokens.len() as u32 }, after, "read", number)
+            }
+            Case::Write { tokens, buffer } => {
+                let (number, bytes) = split(numbers::write(tokens, buffer.len()));
+                let after = Memory::Bytes(over(buffer, &bytes));
+                outcome(Said::Count { number, count: bytes.len() as u32 }, after, "write", number)
+            }
+            Case::Translate { file, buffer } => {
+                let (number, words) = split(translate(file, buffer.len()));
+                outcome(Said::Number(number), Memory::Words(over(buffer, &words)), "translate", number)
+            }
+            Case::Check { table, doc, used } => {
+                let verdict = judgement::check(table.grammar.as_ref(), doc, *used);
+                outcome(Said::Verdict(verdict), Memory::None, "check", verdict.number)
+            }
+            Case::Edit { table, doc, used, edit } => {
+                let (answer, after) = edits::edit(table.grammar.as_ref(), doc, *used, edit);
+                outcome(Said::Answer(answer), Memory::Tokens(after), operation_name(edit.operation), answer.number)
+            }
+            Case::Program(files) => {
+                let printed = program::printed(files);
+                Outcome { said: Said::Printed(printed.text.into_bytes()), after: Memory::None, counted: printed.lines }
+            }
+        }
+    }
+
+    pub fn call(&self) -> &'static str {
+        match self {
+            Case::Read { .. } => "read",
+            Case::Write { .. } => "write",
+            Case::Translate { .. } => "translate",
+            Case::Check { .. } => "check",
+            Case::Edit { .. } => "edit",
+            Case::Program(_) => "program",
+        }
+    }
+
+    /// The case in a few words.
+    pub fn in_words(&self) -> String {
+        match self {
+            Case::Read { file, buffer } => format!("read: {} bytes, room for {}", file.len(), buffer.len()),
+            Case::Write { tokens, buffer } => format!("write: {} tokens, room for {} bytes", tokens.len(), buffer.len()),
+            Case::Translate { file, buffer } => format!("translate: {} bytes, room for {} words", file.len(), buffer.len()),
+            Case::Check { table, doc, used } => {
+                format!("check: {}, buffer of {}, used {used}\n  document {}", table_in_words(table), doc.len(), short(doc))
+            }
+            Case::Edit { table, doc, used, edit } => format!(
+                "{} (operation {}) at {}: {}, buffer of {}, used {used}\n  document {}\n  piece of {}: {}",
+                operation_name(edit.operation),
+                edit.operation,
+                edit.place,
+                table_in_words(table),
+                doc.len(),
+                short(doc),
+                edit.piece.len(),
+                short(&edit.piece)
+            ),
+            Case::Program(files) => format!(
+                "program: schema.dat {}, doc.dat {}, edits.dat {}",
+                file_in_words(&files.schema),
+                file_in_words(&files.doc),
+                file_in_words(&files.edits)
+            ),
+        }
+    }
+}
+
+fn outcome(said: Said, after: Memory, what: &'static str, number: u32) -> Outcome {
+    Outcome { said, after, counted: vec![(what, number)] }
+}
+
+fn translate(file: &[u8], room: usize) -> Result<Vec<u64>, u32> {
+    if room != table::WORDS {
+        return Err(answer::TABLE);
+    }
+    Ok(table::of(&schema_file::read(file)?))
+}
+
+/// The answer number and what was made, nothing if refused.
+fn split<T>(made: Result<Vec<T>, u32>) -> (u32, Vec<T>) {
+    match made {
+        Ok(made) => (answer::DONE, made),
+        Err(number) => (number, Vec::new()),
+    }
+}
+
+/// The buffer with `made` over its front.
+fn over<T: Copy>(buffer: &[T], made: &[T]) -> Vec<T> {
+    [made, &buffer[made.len()..]].concat()
+}
+
+/// The name under which an edit's answers are counted.
+pub fn operation_name(operation: u32) -> &'static str {
+    match operation {
+        edits::INSERT => "insert",
+        edits::REMOVE => "remove",
+        edits::REPLACE => "replace",
+        edits::SET => "set",
+        edits::DROP => "drop",
+        _ => "no operation",
+    }
+}
+
+fn table_in_words(table: &Table) -> String {
+    match (&table.schema, &table.grammar) {
+        (Some(_), _) => "translated table".to_string(),
+        (None, Some(_)) => "proper table of no schema".to_string(),
+        (None, None) => format!("improper table of {} words", table.words.len()),
+    }
+}
+
+fn file_in_words(file: &Option<Vec<u8>>) -> String {
+    match file {
+        None => "missing".to_string(),
+        Some(file) => format!("{} bytes", file.len()),
+    }
+}
+
+/// The first numbers of a list.
+fn short(numbers: &[u32]) -> String {
+    let shown: Vec<String> = numbers.iter().take(40).map(u32::to_string).collect();
+    let more = if numbers.len() > 40 { " .." } else { "" };
+    shown.join(" ") + more
+}

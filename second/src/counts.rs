@@ -1,0 +1,101 @@
+//! How often each answer was given, and which must be.
+
+use second::case::{Case, Outcome, Said};
+use second::make::programs::WAYS;
+use std::collections::BTreeMap;
+
+/// The answers that each kind of call can give. Those of an edit are asked for by operation.
+const CALLS: [(&str, &[usize]); 10] = [
+    ("read", &[0, 1, 5]),
+    ("write", &[0, 4, 5]),
+    ("translate", &[0, 1, 2, 3, 13]),
+    ("check", &[0, 4, 8, 9, 10, 11, 12, 13]),
+    ("insert", &[0, 4, 5, 6, 7, 8, 9, 10, 11, 12, 13]),
+    ("remove", &[0, 4, 6, 7, 8, 9, 10, 11, 12, 13]),
+    ("replace", &[0, 4, 5, 6, 7, 8, 9, 10, 11, 12, 13]),
+    ("set", &[0, 4, 5, 6, 7, 8, 9, 10, 11, 12, 13]),
+    ("drop", &[0, 4, 6, 7, 8, 9, 10, 11, 12, 13]),
+    ("no operation", &[4, 6, 13]),
+];
+
+/// The lines that the edit program can print. Its document is valid before each edit, so none gives 7.
+const LINES: [(&str, &[usize]); 7] = [
+    ("program stop missing", &[5]),
+    ("program stop long", &[5]),
+    ("program stop schema", &[1, 2, 3]),
+    ("program stop document", &[1, 5]),
+    ("program check", &[0, 4, 8, 9, 10, 11, 12]),
+    ("program edit", &[0, 4, 5, 6, 8, 9, 10, 11, 12]),
+    ("program stop edits", &[1, 5]),
+];
+
+#[derive(Default)]
+pub struct Counts {
+    rows: BTreeMap<&'static str, [u64; 14]>,
+    pub cases: u64,
+    pub programs: u64,
+    /// Of edits that were done: the greatest loss and gain in length, and how many began or ended at 8,192 tokens.
+    loss: i32,
+    gain: i32,
+    full: u64,
+    longest_piece: usize,
+}
+
+impl Counts {
+    pub fn add(&mut self, case: &Case, outcome: &Outcome) {
+        self.cases += 1;
+        self.programs += u64::from(matches!(case, Case::Program(_)));
+        for (what, number) in &outcome.counted {
+            self.rows.entry(what).or_insert([0; 14])[*number as usize] += 1;
+        }
+        if let (Case::Edit { used, edit, .. }, Said::Answer(answer)) = (case, &outcome.said) {
+            self.longest_piece = self.longest_piece.max(edit.piece.len());
+            if answer.number == 0 {
+                self.loss = self.loss.min(answer.change);
+                self.gain = self.gain.max(answer.change);
+                self.full += u64::from(*used == 8_192 || answer.used == 8_192);
+            }
+        }
+    }
+
+    pub fn print(&self) {
+        let head: Vec<String> = (0..14).map(|number| format!("{number:>7}")).collect();
+        println!("{:21}{}", "answers", head.concat());
+        for (what, _) in CALLS.iter().chain(&LINES) {
+            if let Some(row) = self.rows.get(what) {
+                let row: Vec<String> = row.iter().map(|count| format!("{:>7}", dot_or(*count))).collect();
+                println!("{what:21}{}", row.concat());
+            }
+        }
+        let Counts { loss, gain, full, longest_piece, .. } = self;
+        println!("edits done: change from {loss} to {gain}, {full} at 8192 tokens; longest piece {longest_piece}");
+    }
+
+    /// The answers that could have been given and were not, if there were enough cases to ask for all.
+    pub fn missing(&self) -> Vec<String> {
+        let mut missing = Vec::new();
+        if self.cases >= 20_000 {
+            missing.extend(self.lacking(&CALLS));
+        }
+        if self.programs >= 2 * WAYS as u64 {
+            missing.extend(self.lacking(&LINES));
+        }
+        missing
+    }
+
+    fn lacking(&self, asked: &[(&'static str, &[usize])]) -> Vec<String> {
+        let count = |what: &str, number: usize| self.rows.get(what).map_or(0, |row| row[number]);
+        let lacks = |what: &str, numbers: &[usize]| {
+            let absent = numbers.iter().filter(|number| count(what, **number) == 0);
+            absent.map(|number| format!("{what} {number}")).collect::<Vec<String>>()
+        };
+        asked.iter().flat_map(|(what, numbers)| lacks(what, numbers)).collect()
+    }
+}
+
+fn dot_or(count: u64) -> String {
+    match count {
+        0 => ".".to_string(),
+        _ => count.to_string(),
+    }
+}

@@ -1,0 +1,39 @@
+//! The five calls, as the archive declares them.
+
+#[repr(C)]
+pub struct Count {
+    pub number: u32,
+    pub count: u32,
+}
+
+#[repr(C)]
+pub struct Verdict {
+    pub number: u32,
+    pub place: u32,
+}
+
+#[repr(C)]
+pub struct Answer {
+    pub number: u32,
+    pub place: u32,
+    pub used: u64,
+    pub change: i32,
+}
+
+extern "C" {
+    pub fn shrike_read(file: *const u8, file_len: usize, tokens: *mut u32, room: usize) -> Count;
+    pub fn shrike_write(tokens: *const u32, n: usize, file: *mut u8, room: usize) -> Count;
+    pub fn shrike_translate(file: *const u8, file_len: usize, table: *mut u64, words: usize) -> u32;
+    pub fn shrike_check(table: *const u64, words: usize, doc: *const u32, room: usize, used: u64) -> Verdict;
+    pub fn shrike_edit(
+        table: *const u64,
+        words: usize,
+        doc: *mut u32,
+        room: usize,
+        used: u64,
+        operation: u32,
+        place: u64,
+        piece: *const u32,
+        n: usize,
+    ) -> Answer;
+}

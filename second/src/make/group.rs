@@ -1,0 +1,207 @@
+//! A group of cases around one schema. Each case is known by its seed and its number: number / SLOTS is the group, the rest the
+//! slot in it. The slots of a group are made in order, as a run of edits goes on from the outcome of the last.
+
+use super::documents::{self, Ground, Scale};
+use super::sizes::Sizes;
+use super::{edits, faults, files, programs, schemas, tables};
+use crate::case::{Case, Memory, Outcome, Said, Table};
+use crate::paper::table::WORDS;
+use crate::paper::tree;
+use crate::random::Random;
+use std::rc::Rc;
+
+/// Slots of a group, and how many of them, the last ones, are runs of the edit program.
+pub const SLOTS: u64 = 64;
+pub const PROGRAM_SLOTS: u64 = 4;
+
+/// A table with what is needed to grow documents for it.
+struct Base {
+    table: Rc<Table>,
+    sizes: Sizes,
+}
+
+impl Base {
+    /// None if the table is not proper.
+    fn new(table: Table) -> Option<Base> {
+        let sizes = documents::sizes_of(table.grammar.as_ref()?);
+        Some(Base { table: Rc::new(table), sizes })
+    }
+
+    fn ground(&self) -> Ground<'_> {
+        Ground { grammar: self.table.grammar.as_ref().expect("a base is proper"), sizes: &self.sizes }
+    }
+}
+
+/// The document that a run of edits has reached.
+struct Run {
+    buffer: Vec<u32>,
+    used: u64,
+    edits_left: usize,
+}
+
+pub struct Group {
+    schema: Base,
+    drawn: Base,
+    scale: Scale,
+    run: Run,
+    run_is_drawn: bool,
+}
+
+impl Group {
+    pub fn new(seed: u64, number: u64) -> Group {
+        let mut random = Random::new(seed, number * SLOTS);
+        let schema = Base::new(Table::of_schema(schemas::schema(&mut random))).expect("a schema's table is proper");
+        let drawn = Base::new(Table::of_words(tables::proper(&mut random))).expect("a table drawn to be proper");
+        let scale = Scale::draw(&mut random);
+        let run = Run { buffer: Vec::new(), used: 0, edits_left: 0 };
+        Group { schema, drawn, scale, run, run_is_drawn: false }
+    }
+
+    /// The case of a slot; `random` is its own. `programs` counts the groups before this one that ran the edit program.
+    pub fn case(&mut self, random: &mut Random, slot: u64, programs: u64) -> Case {
+        let programs_from = SLOTS - PROGRAM_SLOTS;
+        match slot {
+            0 => Case::Translate { file: self.schema_file(), buffer: old_words(random, WORDS) },
+            1..=4 => self.translate(random),
+            5..=8 => {
+                let (file, buffer) = files::to_read(random);
+                Case::Read { file, buffer }
+            }
+            9..=11 => {
+                let (tokens, buffer) = files::to_write(random);
+                Case::Write { tokens, buffer }
+            }
+            12..=25 => self.check(random),
+            _ if slot < programs_from => self.edit(random),
+            _ => {
+                let way = (programs * PROGRAM_SLOTS + slot - programs_from) as usize;
+                Case::Program(self.program(random, way % programs::WAYS))
+            }
+        }
+    }
+
+    /// What a later slot must know of the outcome.
+    pub fn went(&mut self, outcome: &Outcome) {
+        if let (Said::Answer(answer), Memory::Tokens(after)) = (&outcome.said, &outcome.after) {
+            if answer.number == 0 {
+                self.run.buffer = after.clone();
+                self.run.used = answer.used;
+            }
+        }
+    }
+
+    fn schema_file(&self) -> Vec<u8> {
+        self.schema.table.schema.clone().expect("the schema's table has its file")
+    }
+
+    fn translate(&self, random: &mut Random) -> Case {
+        let file = match random.chance(85) {
+            true => schemas::damaged(random, self.schema.ground().grammar),
+            false => self.schema_file(),
+        };
+        let length = match random.below(12) {
+            0 => *random.pick(&[0, 1, 2, WORDS - 1, WORDS + 1, 2 * WORDS]),
+            _ => WORDS,
+        };
+        Case::Translate { file, buffer: old_words(random, length) }
+    }
+
+    fn check(&self, random: &mut Random) -> Case {
+        let base = if random.chance(75) { &self.schema } else { &self.drawn };
+        let (doc, used) = lent_document(random, &base.ground(), self.scale);
+        let used = if random.chance(6) { other_used(random, used, doc.len()) } else { used };
+        Case::Check { table: lent_table(random, base), doc, used }
+    }
+
+    fn edit(&mut self, random: &mut Random) -> Case {
+        if self.run.edits_left == 0 {
+            self.run_is_drawn = random.chance(20);
+            let base = if self.run_is_drawn { &self.drawn } else { &self.schema };
+            let (buffer, used) = lent_document(random, &base.ground(), self.scale);
+            let has_shape = tree::document(&buffer, used).is_some();
+            self.run = Run { buffer, used, edits_left: if has_shape { random.within(1, 10) } else { 1 } };
+        }
+        self.run.edits_left -= 1;
+        let base = if self.run_is_drawn { &self.drawn } else { &self.schema };
+        let doc = self.run.buffer.clone();
+        let edit = match tree::document(&doc, self.run.used) {
+            Some(root) => edits::edit(random, &base.ground(), &root),
+            None => edits::blind(random, &base.ground(), doc.len()),
+        };
+        let used = if random.chance(4) { other_used(random, self.run.used, doc.len()) } else { self.run.used };
+        Case::Edit { table: lent_table(random, base), doc, used, edit }
+    }
+
+    fn program(&self, random: &mut Random, way: usize) -> crate::paper::program::Files {
+        let schema = self.schema_file();
+        programs::files(random, &self.schema.ground(), &schema, way)
+    }
+}
+
+/// The table itself, or now and then one with a changed word or another length.
+fn lent_table(random: &mut Random, base: &Base) -> Rc<Table> {
+    if random.chance(93) {
+        return Rc::clone(&base.table);
+    }
+    let mut words = base.table.words.clone();
+    match random.chance(80) {
+        true => tables::change_word(random, &mut words),
+        false => tables::change_length(random, &mut words),
+    }
+    Rc::new(Table::of_words(words))
+}
+
+/// A document in its buffer, and its length: grown, grown with faults, or noise.
+fn lent_document(random: &mut Random, ground: &Ground, scale: Scale) -> (Vec<u32>, u64) {
+    let mut root = documents::document(random, ground, scale);
+    let way = random.below(20);
+    if way >= 11 {
+        for _ in 0..random.within(1, 3) {
+            faults::in_tree(random, &mut root, ground.grammar);
+        }
+    }
+    let mut buffer = root.tokens();
+    if way == 19 {
+        match random.chance(70) {
+            true => faults::in_tokens(random, &mut buffer),
+            false => buffer = faults::noise(random, 30),
+        }
+    }
+    let used = buffer.len();
+    let room = match random.below(10) {
+        0 => used,
+        1 => used + 1,
+        2 => used + random.below(12),
+        3 => used + random.below(400),
+        4 | 5 if scale != Scale::Tiny => used.max(8_192),
+        6 if scale != Scale::Tiny => used.max(8_192) + random.below(700),
+        7 if random.chance(40) => 8_192 + random.below(2_000),
+        _ => used + random.below(80),
+    };
+    let behind = files::old_tokens(random, room.saturating_sub(used));
+    buffer.extend(behind);
+    (buffer, used as u64)
+}
+
+/// A used length of any sort.
+fn other_used(random: &mut Random, used: u64, room: usize) -> u64 {
+    match random.below(10) {
+        0 => random.below(3) as u64,
+        1 => used + 1,
+        2 => used.saturating_sub(1),
+        3 => room as u64,
+        4 => room as u64 + 1,
+        5 => used + (1 << 32),
+        6 => *random.pick(&[8_191, 8_192, 8_193, 65_536, 1 << 31, 1 << 32, 1 << 63, u64::MAX]),
+        7 => random.bits(),
+        _ => random.below(room + 2) as u64,
+    }
+}
+
+/// Words that stand in a table buffer before a call.
+fn old_words(random: &mut Random, length: usize) -> Vec<u64> {
+    match random.chance(30) {
+        true => vec![random.bits(); length],
+        false => (0..length).map(|_| random.bits()).collect(),
+    }
+}

@@ -1,0 +1,14 @@
+//! Makers of random cases.
+
+pub mod documents;
+pub mod edits;
+pub mod expressions;
+pub mod faults;
+pub mod files;
+pub mod group;
+pub mod keys;
+pub mod pieces;
+pub mod programs;
+pub mod schemas;
+pub mod sizes;
+pub mod tables;

@@ -1,0 +1,209 @@
+//! "The five edits", done on the tree and flattened.
+
+use super::answer::{DONE, PLACE, ROOM, SHAPE, TABLE};
+use super::grammar::Grammar;
+use super::judgement;
+use super::tree::{self, Attribute, Element, Item, Token};
+use super::{DEEPEST, MOST_TOKENS};
+
+pub const INSERT: u32 = 1;
+pub const REMOVE: u32 = 2;
+pub const REPLACE: u32 = 3;
+pub const SET: u32 = 4;
+pub const DROP: u32 = 5;
+
+#[derive(Clone, Debug, PartialEq)]
+pub struct Edit {
+    pub operation: u32,
+    pub place: u64,
+    pub piece: Vec<u32>,
+}
+
+#[derive(Clone, Copy, Debug, PartialEq)]
+pub struct Answer {
+    pub number: u32,
+    pub place: u32,
+    pub used: u64,
+    pub change: i32,
+}
+
+/// A good piece of one of the five operations.
+enum Piece {
+    Insert(Item),
+    Remove,
+    Replace(Item),
+    Set(Attribute),
+    Drop(u16),
+}
+
+/// What stands at a place of a document. A path is the way from the root: each number counts items of one content.
+#[derive(Clone, Debug, PartialEq)]
+pub enum Spot {
+    /// The start of an element, or a text.
+    Item(Vec<usize>),
+    /// The end of an element.
+    End(Vec<usize>),
+    /// An attribute or a value, or no token at all.
+    Other,
+}
+
+/// The answer of an edit and the buffer after it.
+pub fn edit(grammar: Option<&Grammar>, buffer: &[u32], used: u64, edit: &Edit) -> (Answer, Vec<u32>) {
+    let mut after = buffer.to_vec();
+    let answer = match edited(grammar, buffer, used, edit) {
+        Err((number, place)) => Answer { number, place, used, change: 0 },
+        Ok(tokens) => {
+            for token in &mut after[..used as usize] {
+                *token = 0;
+            }
+            after[..tokens.len()].copy_from_slice(&tokens);
+            let change = tokens.len() as i64 - used as i64;
+            Answer { number: DONE, place: 0, used: tokens.len() as u64, change: change as i32 }
+        }
+    };
+    (answer, after)
+}
+
+/// The tokens of the edited document, or number and place of the refusal.
+fn edited(grammar: Option<&Grammar>, buffer: &[u32], used: u64, edit: &Edit) -> Result<Vec<u32>, (u32, u32)> {
+    let grammar = grammar.ok_or((TABLE, 0))?;
+    let mut root = tree::document(buffer, used).ok_or((SHAPE, 0))?;
+    if !(INSERT..=DROP).contains(&edit.operation) {
+        return Err((PLACE, 0));
+    }
+    let piece = piece_of(edit).ok_or((SHAPE, 0))?;
+    let spot = spot(&root, edit.place);
+    apply(&mut root, spot, piece).ok_or((PLACE, 0))?;
+    let size = root.size();
+    if size > MOST_TOKENS || root.depth() > DEEPEST || size > buffer.len() {
+        return Err((ROOM, 0));
+    }
+    let verdict = judgement::judge(&root, grammar);
+    match verdict.number {
+        DONE => Ok(root.tokens()),
+        number => Err((number, verdict.place)),
+    }
+}
+
+fn piece_of(edit: &Edit) -> Option<Piece> {
+    let piece = &edit.piece[..];
+    match edit.operation {
+        INSERT => item_of(piece).map(Piece::Insert),
+        REPLACE => item_of(piece).map(Piece::Replace),
+        REMOVE if piece.is_empty() => Some(Piece::Remove),
+        SET => tree::attribute(piece).map(Piece::Set),
+        DROP if piece.len() == 1 => match Token::of(piece[0])? {
+            Token::Attribute(number) => Some(Piece::Drop(number)),
+            _ => None,
+        },
+        _ => None,
+    }
+}
+
+/// One text, or one element of good shape, all of it touched.
+fn item_of(piece: &[u32]) -> Option<Item> {
+    if let [token] = piece {
+        return match Token::of(*token)? {
+            Token::Text(text) => Some(Item::Text(text)),
+            _ => None,
+        };
+    }
+    let mut element = tree::element(piece)?;
+    element.touch_all();
+    Some(Item::Element(element))
+}
+
+/// Finds what stands at a place.
+pub fn spot(root: &Element, place: u64) -> Spot {
+    let mut path = Vec::new();
+    let mut element = root;
+    let mut left = match usize::try_from(place) {
+        Ok(place) if place < root.size() => place,
+        _ => return Spot::Other,
+    };
+    // `left` counts the tokens from the start of `element`, at `path`, to the place, which lies in it.
+    'down: loop {
+        if left == 0 {
+            return Spot::Item(path);
+        }
+        if left < element.head_size() {
+            return Spot::Other;
+        }
+        left -= element.head_size();
+        for (i, item) in element.content.iter().enumerate() {
+            let size = item.size();
+            if left >= size {
+                left -= size;
+                continue;
+            }
+            path.push(i);
+            match item {
+                Item::Text(_) => return Spot::Item(path),
+                Item::Element(child) => {
+                    element = child;
+                    continue 'down;
+                }
+            }
+        }
+        return Spot::End(path);
+    }
+}
+
+/// The element at a path, if the path does not lead to a text.
+pub fn element_at<'a>(root: &'a mut Element, path: &[usize]) -> Option<&'a mut Element> {
+    let mut element = root;
+    for i in path {
+        element = match &mut element.content[*i] {
+            Item::Element(child) => child,
+            Item::Text(_) => return None,
+        };
+    }
+    Some(element)
+}
+
+/// The content that holds the item at a path, its element being touched, and the item's number there. The root has none.
+fn holder<'a>(root: &'a mut Element, path: &[usize]) -> Option<(&'a mut Vec<Item>, usize)> {
+    let (i, above) = path.split_last()?;
+    let parent = element_at(root, above).expect("an item is held by an element");
+    parent.touched = true;
+    Some((&mut parent.content, *i))
+}
+
+/// Does the edit and marks what it touches. None if the place does not suit.
+fn apply(root: &mut Element, spot: Spot, piece: Piece) -> Option<()> {
+    match (piece, spot) {
+        (Piece::Insert(item), Spot::Item(path)) => {
+            let (content, i) = holder(root, &path)?;
+            content.insert(i, item);
+        }
+        (Piece::Insert(item), Spot::End(path)) => {
+            let element = element_at(root, &path)?;
+            element.touched = true;
+            element.content.push(item);
+        }
+        (Piece::Remove, Spot::Item(path)) => {
+            let (content, i) = holder(root, &path)?;
+            content.remove(i);
+        }
+        (Piece::Replace(item), Spot::Item(path)) => match (holder(root, &path), item) {
+            (Some((content, i)), item) => content[i] = item,
+            (None, Item::Element(element)) => *root = element,
+            (None, Item::Text(_)) => return None,
+        },
+        (Piece::Set(attribute), Spot::Item(path)) => {
+            let element = element_at(root, &path)?;
+            element.touched = true;
+            element.attributes.retain(|old| old.number != attribute.number);
+            let rank = element.attributes.iter().filter(|old| old.number < attribute.number).count();
+            element.attributes.insert(rank, attribute);
+        }
+        (Piece::Drop(number), Spot::Item(path)) => {
+            let element = element_at(root, &path)?;
+            element.touched = true;
+            let i = element.attributes.iter().position(|old| old.number == number)?;
+            element.attributes.remove(i);
+        }
+        _ => return None,
+    }
+    Some(())
+}

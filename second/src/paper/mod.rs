@@ -1,0 +1,36 @@
+//! The paper, written as trees: each module is one of its sections.
+
+pub mod derivatives;
+pub mod edits;
+pub mod expression;
+pub mod grammar;
+pub mod judgement;
+pub mod numbers;
+pub mod occurrences;
+pub mod program;
+pub mod schema_file;
+pub mod table;
+pub mod tree;
+
+/// Most tokens of a document, a piece and a document file.
+pub const MOST_TOKENS: usize = 8_192;
+/// Deepest element of a document, the root being at 1.
+pub const DEEPEST: usize = 64;
+
+/// The answer numbers.
+pub mod answer {
+    pub const DONE: u32 = 0;
+    pub const BROKEN: u32 = 1;
+    pub const SCHEMA: u32 = 2;
+    pub const AMBIGUOUS: u32 = 3;
+    pub const SHAPE: u32 = 4;
+    pub const ROOM: u32 = 5;
+    pub const PLACE: u32 = 6;
+    pub const NAME: u32 = 7;
+    pub const ATTRIBUTES: u32 = 8;
+    pub const CONTENT: u32 = 9;
+    pub const ROOT: u32 = 10;
+    pub const ID_TWICE: u32 = 11;
+    pub const NO_ID: u32 = 12;
+    pub const TABLE: u32 = 13;
+}

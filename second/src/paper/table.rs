@@ -1,0 +1,172 @@
+//! "Table": the words of a schema, what is proper, and what a proper table asks of a document.
+
+use super::grammar::{Attribute, Content, Declaration, Grammar, Kind, KINDS};
+use super::occurrences;
+
+pub const WORDS: usize = 6_626;
+pub const BLOCKS: usize = 48;
+pub const BLOCK: usize = 138;
+
+/// Where the parts of a block stand. `KIND_SETS` are the sets of ID, IDREF and IDREFS.
+pub const ALLOWED: usize = 1;
+pub const REQUIRED: usize = 2;
+pub const KIND_SETS: usize = 3;
+pub const COUNT: usize = 6;
+pub const NO_CHILD: usize = 7;
+pub const FIRST: usize = 8;
+pub const LAST: usize = 9;
+pub const NAMES: usize = 10;
+pub const FOLLOW: usize = 74;
+
+/// Where the block of an element begins.
+pub fn block_at(element: usize) -> usize {
+    2 + BLOCK * element
+}
+
+/// The table of a schema.
+pub fn of(grammar: &Grammar) -> Vec<u64> {
+    let mut words = vec![grammar.elements.len() as u64, grammar.root as u64];
+    for element in &grammar.elements {
+        words.extend(block_of(element));
+    }
+    words.resize(WORDS, 0);
+    words
+}
+
+fn block_of(element: &Declaration) -> Vec<u64> {
+    let mut block = vec![0; BLOCK];
+    for attribute in &element.attributes {
+        let bit = 1 << attribute.number;
+        block[ALLOWED] |= bit;
+        block[REQUIRED] |= if attribute.required { bit } else { 0 };
+        match attribute.kind {
+            Kind::Cdata => {}
+            Kind::Id => block[KIND_SETS] |= bit,
+            Kind::Idref => block[KIND_SETS + 1] |= bit,
+            Kind::Idrefs => block[KIND_SETS + 2] |= bit,
+        }
+    }
+    match &element.content {
+        Content::Empty => {}
+        Content::Text => block[0] = 1,
+        Content::Model(model) => {
+            let found = occurrences::of(&model.expression);
+            block[0] = 2;
+            block[COUNT] = found.names.len() as u64;
+            block[NO_CHILD] = u64::from(found.no_child);
+            block[FIRST] = found.first;
+            block[LAST] = found.last;
+            for (k, name) in found.names.iter().enumerate() {
+                block[NAMES + k] = u64::from(*name);
+                block[FOLLOW + k] = found.follow[k];
+            }
+        }
+        Content::Run(_) => panic!("a table that no schema gives is not made from a grammar"),
+    }
+    block
+}
+
+/// Whether a table is proper.
+pub fn is_proper(words: &[u64]) -> bool {
+    if words.len() != WORDS || words[0] < 1 || words[0] > BLOCKS as u64 || words[1] >= words[0] {
+        return false;
+    }
+    let (declared, others) = words.split_at(block_at(words[0] as usize));
+    others.iter().all(|word| *word == 0) && declared[2..].chunks(BLOCK).all(|block| is_proper_block(block, words[0]))
+}
+
+fn is_proper_block(block: &[u64], elements: u64) -> bool {
+    let allowed = block[ALLOWED];
+    let (id, idref, idrefs) = (block[KIND_SETS], block[KIND_SETS + 1], block[KIND_SETS + 2]);
+    let sets_fit = [block[REQUIRED], id, idref, idrefs].iter().all(|set| set & !allowed == 0);
+    let sets_differ = (0..64).all(|bit| [id, idref, idrefs].iter().filter(|set| *set >> bit & 1 == 1).count() <= 1);
+    if !sets_fit || !sets_differ || bits(id).len() > 1 {
+        return false;
+    }
+    match block[0] {
+        0 | 1 => block[COUNT..].iter().all(|word| *word == 0),
+        2 => is_proper_model(block, elements),
+        _ => false,
+    }
+}
+
+fn is_proper_model(block: &[u64], elements: u64) -> bool {
+    if block[COUNT] < 1 || block[COUNT] > 64 || block[NO_CHILD] > 1 {
+        return false;
+    }
+    let n = block[COUNT] as usize;
+    let (names, no_names) = block[NAMES..FOLLOW].split_at(n);
+    let (follow, no_follow) = block[FOLLOW..].split_at(n);
+    let lowest = |set: &u64| bits(*set).iter().all(|k| *k < n);
+    let one_each = |set: &u64| {
+        let set = bits(*set);
+        set.iter().all(|j| set.iter().all(|k| j == k || names[*j] != names[*k]))
+    };
+    no_names.iter().chain(no_follow).all(|word| *word == 0)
+        && names.iter().all(|name| *name < elements)
+        && lowest(&block[LAST])
+        && follow.iter().chain([&block[FIRST]]).all(|set| lowest(set) && one_each(set))
+}
+
+/// The numbers of the bits of a set, rising.
+pub fn bits(set: u64) -> Vec<usize> {
+    (0..64).filter(|bit| set >> bit & 1 == 1).collect()
+}
+
+/// The content of a block, to be run: begin in first, move by follow, end in last, or by the no-child flag.
+#[derive(Debug)]
+pub struct Run {
+    pub no_child: bool,
+    pub first: u64,
+    pub last: u64,
+    pub names: Vec<u16>,
+    pub follow: Vec<u64>,
+}
+
+impl Run {
+    pub fn describes(&self, children: &[u16]) -> bool {
+        let mut may_come = self.first;
+        let mut at = None;
+        for child in children {
+            at = bits(may_come).into_iter().find(|k| self.names[*k] == *child);
+            match at {
+                Some(k) => may_come = self.follow[k],
+                None => return false,
+            }
+        }
+        match at {
+            Some(k) => self.last >> k & 1 == 1,
+            None => self.no_child,
+        }
+    }
+}
+
+/// What a proper table asks for, read from its words alone.
+pub fn grammar_of(words: &[u64]) -> Option<Grammar> {
+    if !is_proper(words) {
+        return None;
+    }
+    let declared = &words[2..block_at(words[0] as usize)];
+    let elements = declared.chunks(BLOCK).map(declaration_of).collect();
+    Some(Grammar { root: words[1] as usize, elements })
+}
+
+fn declaration_of(block: &[u64]) -> Declaration {
+    let n = block[COUNT] as usize;
+    let content = match block[0] {
+        0 => Content::Empty,
+        1 => Content::Text,
+        _ => Content::Run(Run {
+            no_child: block[NO_CHILD] == 1,
+            first: block[FIRST],
+            last: block[LAST],
+            names: block[NAMES..NAMES + n].iter().map(|name| *name as u16).collect(),
+            follow: block[FOLLOW..FOLLOW + n].to_vec(),
+        }),
+    };
+    let attribute = |bit: usize| {
+        let kind = (0..3).find(|i| block[KIND_SETS + i] >> bit & 1 == 1).map_or(Kind::Cdata, |i| KINDS[i + 1]);
+        Attribute { number: bit as u16, kind, required: block[REQUIRED] >> bit & 1 == 1 }
+    };
+    Declaration { content, attributes: bits(block[ALLOWED]).into_iter().map(attribute).collect() }
+}

@@ -1,0 +1,116 @@
+//! Cases as files: case.txt holds what is small, a file each what is long.
+
+use crate::case::{Case, Table};
+use crate::paper::edits::Edit;
+use crate::paper::program::Files;
+use crate::paper::{schema_file, table};
+use std::collections::HashMap;
+use std::fmt::Display;
+use std::fs;
+use std::io::{Error, ErrorKind, Result};
+use std::path::Path;
+use std::rc::Rc;
+use std::str::FromStr;
+
+/// Writes a case into a folder, which is made. Bit k of `sides` is set if lent memory k stands at the front of its field.
+pub fn save(folder: &Path, case: &Case, sides: u8) -> Result<()> {
+    fs::create_dir_all(folder)?;
+    let mut small = format!("call {}\nsides {sides}\n", case.call());
+    match case {
+        Case::Read { file, buffer } => {
+            fs::write(folder.join("file.dat"), file)?;
+            write_numbers(folder, "buffer.txt", buffer)?;
+        }
+        Case::Write { tokens, buffer } => {
+            write_numbers(folder, "tokens.txt", tokens)?;
+            write_numbers(folder, "buffer.txt", buffer)?;
+        }
+        Case::Translate { file, buffer } => {
+            fs::write(folder.join("schema.dat"), file)?;
+            write_numbers(folder, "buffer.txt", buffer)?;
+        }
+        Case::Check { table, doc, used } => {
+            save_table(folder, table)?;
+            write_numbers(folder, "doc.txt", doc)?;
+            small += &format!("used {used}\n");
+        }
+        Case::Edit { table, doc, used, edit } => {
+            save_table(folder, table)?;
+            write_numbers(folder, "doc.txt", doc)?;
+            write_numbers(folder, "piece.txt", &edit.piece)?;
+            small += &format!("used {used}\noperation {}\nplace {}\n", edit.operation, edit.place);
+        }
+        Case::Program(files) => save_files(folder, files)?,
+    }
+    fs::write(folder.join("case.txt"), small)
+}
+
+/// The three files of the edit program, those that are there.
+pub fn save_files(folder: &Path, files: &Files) -> Result<()> {
+    for (name, file) in [("schema.dat", &files.schema), ("doc.dat", &files.doc), ("edits.dat", &files.edits)] {
+        if let Some(file) = file {
+            fs::write(folder.join(name), file)?;
+        }
+    }
+    Ok(())
+}
+
+fn save_table(folder: &Path, table: &Table) -> Result<()> {
+    match &table.schema {
+        Some(schema) => fs::write(folder.join("schema.dat"), schema),
+        None => write_numbers(folder, "table.txt", &table.words),
+    }
+}
+
+fn write_numbers<T: Display>(folder: &Path, name: &str, numbers: &[T]) -> Result<()> {
+    let text: Vec<String> = numbers.iter().map(T::to_string).collect();
+    fs::write(folder.join(name), text.join(" ") + "\n")
+}
+
+/// A saved case and its sides.
+pub fn load(folder: &Path) -> Result<(Case, u8)> {
+    let text = fs::read_to_string(folder.join("case.txt"))?;
+    let small: HashMap<&str, &str> = text.lines().filter_map(|line| line.split_once(' ')).collect();
+    let call = *small.get("call").ok_or_else(|| bad("no call"))?;
+    let case = match call {
+        "read" => Case::Read { file: fs::read(folder.join("file.dat"))?, buffer: numbers(folder, "buffer.txt")? },
+        "write" => Case::Write { tokens: numbers(folder, "tokens.txt")?, buffer: numbers(folder, "buffer.txt")? },
+        "translate" => Case::Translate { file: fs::read(folder.join("schema.dat"))?, buffer: numbers(folder, "buffer.txt")? },
+        "check" => Case::Check { table: load_table(folder)?, doc: numbers(folder, "doc.txt")?, used: number(&small, "used")? },
+        "edit" => Case::Edit {
+            table: load_table(folder)?,
+            doc: numbers(folder, "doc.txt")?,
+            used: number(&small, "used")?,
+            edit: Edit { operation: number(&small, "operation")?, place: number(&small, "place")?, piece: numbers(folder, "piece.txt")? },
+        },
+        "program" => Case::Program(Files {
+            schema: fs::read(folder.join("schema.dat")).ok(),
+            doc: fs::read(folder.join("doc.dat")).ok(),
+            edits: fs::read(folder.join("edits.dat")).ok(),
+        }),
+        _ => return Err(bad("no such call")),
+    };
+    Ok((case, number(&small, "sides")?))
+}
+
+fn load_table(folder: &Path) -> Result<Rc<Table>> {
+    let schema = match fs::read(folder.join("schema.dat")) {
+        Ok(schema) => schema,
+        Err(_) => return Ok(Rc::new(Table::of_words(numbers(folder, "table.txt")?))),
+    };
+    let grammar = schema_file::read(&schema).map_err(|_| bad("a schema that is refused"))?;
+    Ok(Rc::new(Table { words: table::of(&grammar), grammar: Some(grammar), schema: Some(schema) }))
+}
+
+fn numbers<T: FromStr>(folder: &Path, name: &str) -> Result<Vec<T>> {
+    let text = fs::read_to_string(folder.join(name))?;
+    text.split_whitespace().map(|number| number.parse().map_err(|_| bad("no number"))).collect()
+}
+
+fn number<T: FromStr>(small: &HashMap<&str, &str>, name: &str) -> Result<T> {
+    small.get(name).and_then(|number| number.parse().ok()).ok_or_else(|| bad("a number is missing"))
+}
+
+fn bad(what: &str) -> Error {
+    Error::new(ErrorKind::InvalidData, what)
+}

@@ -1,0 +1,161 @@
+//! The paper's small shade, its four models and its six lines: by this program, and by the calls of the archive.
+
+#[path = "../src/library.rs"]
+#[allow(dead_code)]
+mod library;
+
+use second::paper::edits::{edit, Answer, Edit};
+use second::paper::expression::Expression;
+use second::paper::grammar::Grammar;
+use second::paper::judgement::{check, Verdict};
+use second::paper::program::{printed, Files};
+use second::paper::{numbers, occurrences, schema_file, table};
+
+const SCHEMA: [u32; 29] = [4, 0, 2, 5, 0, 4, 6, 3, 8, 1, 0, 0, 0, 2, 2, 3, 7, 1, 1, 1, 0, 1, 0, 0, 1, 2, 2, 0, 99];
+const DOCUMENT: [u32; 15] = [1, 4, 61, 9, 12, 165, 17, 243, 2, 2, 25, 20, 165, 2, 2];
+
+fn schema_file_bytes() -> Vec<u8> {
+    numbers::file_of(&SCHEMA[..28])
+}
+
+fn grammar() -> Grammar {
+    schema_file::read(&schema_file_bytes()).expect("the small shade's schema")
+}
+
+/// The archive's number for a schema file, and its table.
+fn translated(file: &[u8]) -> (u32, Vec<u64>) {
+    let mut words = vec![7; 6_626];
+    let number = unsafe { library::shrike_translate(file.as_ptr(), file.len(), words.as_mut_ptr(), words.len()) };
+    (number, words)
+}
+
+/// The verdict on the document, which is this program's and the archive's.
+fn verdict(used: u64) -> Verdict {
+    let (_, table) = translated(&schema_file_bytes());
+    let said = unsafe { library::shrike_check(table.as_ptr(), table.len(), DOCUMENT.as_ptr(), DOCUMENT.len(), used) };
+    let judged = check(Some(&grammar()), &DOCUMENT, used);
+    assert_eq!(judged, Verdict { number: said.number, place: said.place });
+    judged
+}
+
+/// Number, place and used length of an edit of the document, in a buffer of 40 places; and the buffer after it. They are this program's
+/// and the archive's.
+fn answer(operation: u32, asked: u64, piece: &[u32]) -> ((u32, u32, u64), Vec<u32>) {
+    let mut buffer = DOCUMENT.to_vec();
+    buffer.resize(40, 7);
+    let (answer, after) = edit(Some(&grammar()), &buffer, 15, &Edit { operation, place: asked, piece: piece.to_vec() });
+    let Answer { number, place, used, change } = answer;
+    assert_eq!(i64::from(change), used as i64 - 15);
+    let (_, table) = translated(&schema_file_bytes());
+    let mut doc = buffer.clone();
+    let (words, room) = (table.len(), doc.len());
+    let (table, lent) = (table.as_ptr(), doc.as_mut_ptr());
+    let said = unsafe { library::shrike_edit(table, words, lent, room, 15, operation, asked, piece.as_ptr(), piece.len()) };
+    assert_eq!((said.number, said.place, said.used, said.change), (number, place, used, change));
+    assert_eq!(doc, after);
+    assert!(number == 0 || after == buffer, "a refusal changes nothing");
+    ((number, place, used), after)
+}
+
+#[test]
+fn checks() {
+    assert_eq!(verdict(15), Verdict { number: 0, place: 0 });
+    assert_eq!(verdict(14), Verdict { number: 4, place: 0 });
+    assert_eq!(verdict(16), Verdict { number: 4, place: 0 });
+    assert_eq!(check(None, &DOCUMENT, 15), Verdict { number: 13, place: 0 });
+}
+
+#[test]
+fn marked_cases() {
+    assert_eq!(answer(2, 3, &[]).0, (9, 0, 15));
+    assert_eq!(answer(2, 10, &[]).0, (0, 0, 11));
+    assert_eq!(answer(2, 7, &[]).0, (9, 6, 15));
+    assert_eq!(answer(1, 10, &[9, 12, 165, 2]).0, (11, 12, 15));
+    assert_eq!(answer(1, 10, &[9, 12, 173, 2]).0, (0, 0, 19));
+    assert_eq!(answer(1, 3, &[25, 20, 165, 2]).0, (9, 0, 15));
+    assert_eq!(answer(1, 10, &[25, 20, 165, 2]).0, (0, 0, 19));
+    assert_eq!(answer(3, 3, &[9, 12, 173, 2]).0, (12, 9, 15));
+    assert_eq!(answer(5, 3, &[12]).0, (8, 3, 15));
+}
+
+#[test]
+fn other_cases() {
+    for place in [0, 1, 15, 16, 1 << 32, u64::MAX] {
+        assert_eq!(answer(1, place, &[25, 20, 165, 2]).0, (6, 0, 15));
+    }
+    assert_eq!(answer(1, 14, &[25, 20, 165, 2]).0, (0, 0, 19));
+    assert_eq!(answer(3, 0, &[11]).0, (6, 0, 15));
+    assert_eq!(answer(4, 0, &[4, 69]).0, (0, 0, 15));
+    assert_eq!(answer(4, 0, &[4, 69, 69]).0, (8, 0, 15));
+    assert_eq!(answer(5, 0, &[12]).0, (6, 0, 15));
+    assert_eq!(answer(0, 99, &[]).0, (6, 0, 15));
+}
+
+#[test]
+fn places_after_a_removal() {
+    let after = answer(2, 10, &[]).1;
+    assert_eq!(after[..11], [1, 4, 61, 9, 12, 165, 17, 243, 2, 2, 2]);
+    assert_eq!(after[11..15], [0, 0, 0, 0]);
+    assert!(after[15..].iter().all(|token| *token == 7));
+}
+
+/// The number for a schema of the small shade's four elements whose root has a model: this program's and the archive's.
+fn number_of_model(symbols: &[u32]) -> u32 {
+    let mut numbers = vec![4, 0, 2, symbols.len() as u32];
+    numbers.extend(symbols);
+    numbers.extend([0, 0, 0, 0, 0, 0, 0]);
+    let file = numbers::file_of(&numbers);
+    let number = schema_file::read(&file).err().unwrap_or(0);
+    assert_eq!(translated(&file).0, number);
+    number
+}
+
+#[test]
+fn four_models() {
+    let (a, b, c) = (6, 7, 8);
+    let ambiguous = |symbols: &[u32]| occurrences::of(&Expression::of_symbols(symbols).expect("a model")).ambiguous;
+    let row = |names: usize| {
+        let mut symbols = vec![0; names - 1];
+        symbols.resize(2 * names - 1, a);
+        symbols
+    };
+    for (symbols, number) in [
+        (vec![0, 2, a, a], 3),
+        (vec![1, 0, a, b, 0, a, c], 3),
+        (vec![3, 0, 3, a, 3, b], 0),
+        (row(64), 0),
+    ] {
+        assert_eq!(ambiguous(&symbols), number == 3);
+        assert_eq!(number_of_model(&symbols), number);
+    }
+    assert_eq!(number_of_model(&row(65)), 2);
+}
+
+#[test]
+fn table_of_the_shade() {
+    let words = table::of(&grammar());
+    assert!(table::is_proper(&words));
+    assert_eq!(words[..12], [4, 0, 2, 1, 1, 0, 0, 0, 2, 0, 1, 3]);
+    assert_eq!(words[12..14], [1, 3]);
+    assert_eq!(words[2 + 74..2 + 76], [3, 2]);
+    assert_eq!(words.len(), 6_626);
+    assert_eq!(translated(&schema_file_bytes()), (0, words));
+}
+
+#[test]
+fn six_lines() {
+    let edits = [2, 3, 0, 1, 10, 4, 9, 12, 173, 2, 3, 3, 4, 9, 12, 173, 2, 2, 14, 0, 2, 3, 0];
+    let files = |schema: Option<Vec<u8>>, doc: &[u32], edits: &[u32]| Files {
+        schema,
+        doc: Some(numbers::file_of(doc)),
+        edits: Some(numbers::file_of(edits)),
+    };
+    let good = files(Some(schema_file_bytes()), &DOCUMENT, &edits);
+    assert_eq!(printed(&good).text, "0 0 0 15\n1 9 0 15\n2 0 0 19\n3 11 9 19\n4 0 0 15\n5 0 0 8\n");
+    assert_eq!(printed(&files(None, &DOCUMENT, &edits)).text, "stop 5\n");
+    assert_eq!(printed(&files(Some(vec![]), &DOCUMENT, &edits)).text, "stop 1\n");
+    assert_eq!(printed(&files(Some(schema_file_bytes()), &[], &edits)).text, "0 4 0 0\n");
+    assert_eq!(printed(&files(Some(schema_file_bytes()), &DOCUMENT, &edits[..5])).text, "0 0 0 15\n1 9 0 15\nstop 1\n");
+    assert_eq!(printed(&files(Some(schema_file_bytes()), &DOCUMENT, &[2, 3, 8_193])).text, "0 0 0 15\nstop 5\n");
+    assert_eq!(printed(&files(Some(numbers::file_of(&SCHEMA)), &DOCUMENT, &edits)).text, "stop 2\n");
+}
