@@ -1,6 +1,7 @@
 -- `keys::repeated_id` meets its contract. The invariants are `Looking` and, of the inner loop, `Comparing`; the measures are how many
 -- keys are left. Assumes nothing.
 use Prim.Native.Nat.{_-_}
+use native.Mathlib.Omega.{arith}
 use borrow.Author.Needs.{needs}
 use Rattle.keys.specs.Compare.{Looking, Comparing, compare-none, compare-more, look-none, look-end, look-more, look-found}
 use Rattle.keys.proofs.repeated_id.Statement.{statement}
@@ -43,7 +44,7 @@ loop-less : tie.Need-loop-less Inv-loop μ-loop Inv-ids μ-ids
 loop-less c = search needs
 
 loop-again : tie.Need-loop-again Inv-loop μ-loop Inv-ids μ-ids
-loop-again c = search compare-more
+loop-again c = compare-more _ (c .before .before .loop .inv) (omega arith)
 
 mul-t17 : tie.Need-mul-t17 Inv-loop μ-loop Inv-ids μ-ids
 mul-t17 c = search needs
