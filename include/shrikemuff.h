@@ -24,7 +24,8 @@
  *
  * Stack of a call, compiled for x86-64, in bytes:
  *
- *     shrike_read, shrike_write       under 100
+ *     shrike_read                     under 33,000
+ *     shrike_write                    under 100
  *     shrike_translate                under 104,000
  *     shrike_check                    under 100,000
  *     shrike_edit                     under 133,000

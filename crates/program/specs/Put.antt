@@ -43,6 +43,10 @@ module _ {s t : List ℕ} {at n : ℕ} {x : List ℕ} (p : Put s at x n t) where
   pub put-counts : n ≡ length (take n t)
   put-counts = sym (length-take-le n t put-fits)
 
+-- two outcomes for one input are equal
+pub put-same : {s t u : List ℕ} {at n m : ℕ} {l : List ℕ} → Put s at l n t → Put s at l m u → (n ≡ m) × (t ≡ u)
+put-same p q = (p .place ∙ sym (q .place), p .bytes ∙ sym (q .bytes))
+
 pub put-none : (s : List ℕ) (at : ℕ) → at ≤ length s → Put s at [] at s
 put-none s at h = record { place = omega arith; within = h; bytes = refl }
 
