@@ -4,13 +4,13 @@ use mathlib.Core.Bool.{Bool, true, false, cond, not, _&&_}
 use mathlib.Core.List.{List, [], _++_}
 use Prim.Native.Nat.{ℕ, suc, _+_, _-_, _≤_, _<_}
 use native.Mathlib.Omega.{arith}
-use borrow.Author.Tests.{le-leb, lt-leb, leb-true, ne-eqb, not-true, not-false}
+use borrow.Author.Tests.{le-leb, lt-leb, leb-true, leb-false, ne-eqb, not-true, not-false}
 use lib.Dec.{leb, eqb}
-use lib.ListN.{length, take, drop, length-map, length-append, length-drop, length-take}
-use lib.Seq.{take-length, length-take-le}
+use lib.ListN.{length, take, drop, length-map, length-append, length-drop}
+use lib.Seq.{take-length, take-take, length-take-le}
 use Rattle.paper.specs.declared.Tok.{Tok}
-use Rattle.paper.specs.Basics.{mostTokens, between}
-use Rattle.paper.specs.Tokens.{toks, tokOf, itemSize}
+use Rattle.paper.specs.Basics.{mostTokens, mostDeep, between}
+use Rattle.paper.specs.Tokens.{toks, tokOf, itemSize, deep}
 use Rattle.paper.specs.Shape.{isElement, shallow, shapeOf}
 use Rattle.paper.specs.Edits.{Request, attrAt, attrCut, goodPiece, goodPlace, spliceAt, spliceCut, coming, splice, edited, fits, formFault}
 use Rattle.trees.specs.Move.{Spliced}
@@ -19,8 +19,10 @@ use Rattle.trees.specs.Keep.{Cut, element-parts}
 use Rattle.trees.specs.Local.{clash}
 use Rattle.trees.specs.Splice.{cut-item}
 use Rattle.trees.specs.Attrs.{attr-rest}
-use Rattle.trees.specs.Five.{Allowed, insert, remove, replace, replace-root, attribute, five-keep}
-use Rattle.trees.specs.EditJudged.{allowed-by, edited-toks}
+use Rattle.trees.specs.Depth.{openIn}
+use Rattle.trees.specs.Bridge.{toks-take}
+use Rattle.trees.specs.Five.{Allowed, insert, remove, replace, replace-root, attribute, five-deep, place-deep}
+use Rattle.trees.specs.EditJudged.{allowed-by, coming-toks, edited-toks}
 use Rattle.edits.specs.declared.Plan.{Plan}
 use Rattle.edits.specs.Plan.{planned, planOf}
 use Rattle.edits.specs.declared.Form.{Form}
@@ -40,6 +42,24 @@ pub record Formed (room : ℕ) (q : Request) (doc : List ℕ) (r : Form) (after 
   pub come : r .number ≡ 0 → r .coming ≡ length (coming (q .operation) (q .piece))
   pub size : r .number ≡ 0 → r .used ≡ length (edited q doc)
   pub tokens : r .number ≡ 0 → take (r .used) after ≡ edited q doc
+
+-- ---- how deep it is
+
+-- how deep a splice makes the document is told at its place
+pub record Level (doc : List ℕ) (used at cut : ℕ) (piece : List ℕ) : Type 0 where
+  pub low : openIn (toks (take at doc)) ≤ mostDeep
+  pub told : shallow (toks (splice at cut piece (take used doc))) ≡ leb (openIn (toks (take at doc)) + deep 0 (toks piece)) mostDeep
+
+module _ {o b : ℕ} (h : o ≤ mostDeep) {n : ℕ} (en : n ≡ b) where
+  pub below-none : n ≡ 0 → true ≡ leb (o + b) mostDeep
+  below-none z = sym (le-leb (o + b) mostDeep (omega arith))
+
+  pub below-some : {m : ℕ} → m ≡ o → leb n (mostDeep - m) ≡ leb (o + b) mostDeep
+  below-some {m} em = go (leb n (mostDeep - m)) refl
+    where
+      go : (x : Bool) → leb n (mostDeep - m) ≡ x → leb n (mostDeep - m) ≡ leb (o + b) mostDeep
+      go true e = e ∙ sym (le-leb (o + b) mostDeep (omega (arith, leb-true n (mostDeep - m) e)))
+      go false e = e ∙ sym (lt-leb (o + b) mostDeep (omega (arith, leb-false n (mostDeep - m) e)))
 
 -- ---- what comes
 
@@ -118,27 +138,24 @@ module _ (doc : List ℕ) (used at cut : ℕ) (piece : List ℕ) (h : at + cut �
     fits-is : fits (length doc) new ≡ shallow (toks new)
     fits-is = rw (size-is, le-leb (used - cut + length piece) mostTokens few, le-leb (used - cut + length piece) (length doc) room) (and-one (shallow (toks new)))
 
-    module _ (one : isElement (toks new) ≡ true) {before after : List ℕ} {k : ℕ} (lb : length before ≡ mostTokens) (s : Spliced doc used at cut piece before k after)
-        {y : Bool} (ey : y ≡ shapeOf after (used - cut + length piece)) where
-      tokens-are : take (used - cut + length piece) after ≡ new
-      tokens-are = rw (← s .count) (s .tokens)
+    -- whether it is too deep is told before it is made
+    module _ (v : Level doc used at cut piece) {y : Bool} (ey : y ≡ leb (openIn (toks (take at doc)) + deep 0 (toks piece)) mostDeep) where
+      depth-is : fits (length doc) new ≡ y
+      depth-is = fits-is ∙ v .told ∙ sym ey
 
-      shape-is : y ≡ shallow (toks new)
-      unfolding shapeOf
-      shape-is =
-          let n : ℕ = used - cut + length piece in
-          let two : 2 ≤ n = let g = element-parts (toks new) one .1 in omega (arith, length-map new tokOf, size-is) in
-          let t : length (take n after) ≡ n = ap length tokens-are ∙ size-is in
-          let long : n ≤ length after = omega (arith, length-take n after) in
-          ey ∙ rw (le-leb 2 n two, le-leb n mostTokens few, le-leb n (length after) long, tokens-are, one)
+      pub made-deep : {r : Form} {after : List ℕ} → not y ≡ true → r .number ≡ 5 → Made (length doc) at (length piece) new r after
+      made-deep g e = made-bad (depth-is ∙ not-true y g) e
 
-      pub made-deep : {r : Form} → not y ≡ true → r .number ≡ 5 → Made (length doc) at (length piece) new r after
-      made-deep g e = made-bad (fits-is ∙ sym shape-is ∙ not-true y g) e
-
-      pub made-good : not y ≡ false → Made (length doc) at (length piece) new (record { number = 0; at = at; coming = length piece; used = used - cut + length piece }) after
-      made-good g =
-          let f : fits (length doc) new ≡ true = fits-is ∙ sym shape-is ∙ not-false y g in
-          record { number = rw f; place = λ z. refl; come = λ z. refl; size = λ z. sym size-is; tokens = λ z. tokens-are }
+      pub made-good : not y ≡ false → {before after : List ℕ} {k : ℕ} → Spliced doc used at cut piece before k after
+          → Made (length doc) at (length piece) new (record { number = 0; at = at; coming = length piece; used = used - cut + length piece }) after
+      made-good g s =
+          record {
+            number = rw (depth-is, not-false y g);
+            place = λ z. refl;
+            come = λ z. refl;
+            size = λ z. sym size-is;
+            tokens = λ z. rw (← s .count) (s .tokens);
+          }
 
 -- ---- the form
 
@@ -162,16 +179,17 @@ pub record Shaped (buf : List ℕ) (used : ℕ) : Type 0 where
   pub few : used ≤ mostTokens
   pub long : used ≤ length buf
   pub one : isElement (toks (take used buf)) ≡ true
+  pub low : deep 0 (toks (take used buf)) ≤ mostDeep
 
 pub shaped : (buf : List ℕ) (used : ℕ) → shapeOf buf used ≡ true → Shaped buf used
 unfolding shapeOf
 shaped buf used e =
     let d : List Tok = toks (take used buf) in
-    let (s, _) = and-parts _ (shallow d) e in
+    let (s, low) = and-parts _ (shallow d) e in
     let (s, one) = and-parts _ (isElement d) s in
     let (s, long) = and-parts _ (leb used (length buf)) s in
     let (_, few) = and-parts (leb 2 used) (leb used mostTokens) s in
-    record { few = leb-true used mostTokens few; long = leb-true used (length buf) long; one = one }
+    record { few = leb-true used mostTokens few; long = leb-true used (length buf) long; one = one; low = leb-true (deep 0 d) mostDeep low }
 
 pub shaped-few : (buf : List ℕ) (used : ℕ) → shapeOf buf used ≡ true → used ≤ mostTokens
 shaped-few buf used e = shaped buf used e .few
@@ -291,6 +309,18 @@ module _ (room op place : ℕ) (piece : List ℕ) (buf : List ℕ) (used : ℕ) 
                   let a = leb-true (length (toks piece)) mostTokens (and-parts (leb (length (toks piece)) mostTokens) _ g .0) in
                   omega (arith, length-map piece tokOf, come-le op piece (ap length ec))
 
-          pub one-element : {cm : List ℕ} → cm ≡ coming op piece → isElement (toks (splice (pl .at) (pl .cut) cm (take used buf))) ≡ true
-          one-element ec =
-              ap (λ x. isElement (toks x)) (edited-is ec) ∙ ap isElement (edited-toks q (take used buf)) ∙ five-keep (toks (take used buf)) (shaped buf used sh .one) allowed
+          pub level-told : {cm : List ℕ} → cm ≡ coming op piece → Level buf used (pl .at) (pl .cut) cm
+          level-told {cm} ec =
+              let s = shaped buf used sh in
+              let d : List Tok = toks (take used buf) in
+              let at : ℕ = spliceAt op place (toks piece) d in
+              let within = plan-within in
+              let front : toks (take (pl .at) buf) ≡ take at d
+              = ap toks (sym (take-take (pl .at) used buf (omega arith))) ∙ toks-take (pl .at) (take used buf) ∙ ap (λ k. take k d) (good .at) in
+              let come : toks cm ≡ coming op (toks piece) = ap toks ec ∙ coming-toks q (take used buf) in
+              let new : toks (splice (pl .at) (pl .cut) cm (take used buf)) ≡ splice at (spliceCut op place (toks piece) d) (coming op (toks piece)) d
+              = ap toks (edited-is ec) ∙ edited-toks q (take used buf) in
+              record {
+                low = rw front (place-deep d (s .one) mostDeep (s .low) at);
+                told = ap shallow new ∙ five-deep d (s .one) mostDeep (s .low) allowed ∙ ap₂ (λ a b. leb (openIn a + deep 0 b) mostDeep) (sym front) (sym come);
+              }

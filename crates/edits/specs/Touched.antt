@@ -7,9 +7,10 @@ use native.Mathlib.Omega.{arith}
 use lib.ListN.{length, take, drop}
 use lib.Seq.{take-take}
 use Rattle.paper.specs.declared.Tok.{Tok}
-use Rattle.paper.specs.Tokens.{tokOf, toks, starts, balanced, parent, touched}
+use Rattle.paper.specs.Tokens.{toks, starts, balanced, parent, touched}
 use Rattle.paper.specs.Rules.{ofTable}
 use Rattle.paper.specs.Judgement.{Answer, faultAt, first, startPlace, elementFault, judge, orElse}
+use Rattle.trees.specs.Bridge.{toks-take}
 use Rattle.trees.specs.Touch.{inside, touched-is, parentOf}
 use Rattle.trees.specs.ShapeTurns.{length-toks}
 use Rattle.keys.specs.declared.Fault.{Fault}
@@ -43,11 +44,6 @@ parent-no (t ∷ a) h i = go (parent-no a) (starts t && balanced a) refl h i
     go ih true f h i = absurd (omega arith)
     go ih false f h zero = f
     go ih false f h (suc i) = ih (omega arith) i
-
-toks-take : (n : ℕ) (a : List ℕ) → toks (take n a) ≡ take n (toks a)
-toks-take zero a = refl
-toks-take (suc n) [] = refl
-toks-take (suc n) (x ∷ a) = ap (λ r. tokOf x ∷ r) (toks-take n a)
 
 -- ---- what is touched
 

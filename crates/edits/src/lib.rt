@@ -13,18 +13,20 @@ ghost use mathlib.Core.Path.{_≡_};
 ghost use mathlib.Core.Bool.{true};
 ghost use Prim.Native.Nat.{_+_, _-_, _≤_, _<_};
 ghost use lib.ListN.{length, take, drop};
+ghost use lib.Dec.{leb};
 ghost use lib.IntN.{pos, _-ℤ_};
 ghost use lib.Seq.{paste};
-ghost use Rattle.paper.specs.Tokens.{toks, starts, values, slot, held, touched};
-ghost use Rattle.paper.specs.Basics.{mostTokens, null};
-ghost use Rattle.paper.specs.Shape.{isElement, shapeOf};
+ghost use Rattle.paper.specs.Tokens.{toks, starts, deep, values, slot, held, touched};
+ghost use Rattle.paper.specs.Basics.{mostTokens, mostDeep, null};
+ghost use Rattle.paper.specs.Shape.{shapeOf};
 ghost use Rattle.paper.specs.Table.{proper};
 ghost use Rattle.paper.specs.Rules.{ofTable};
 ghost use Rattle.paper.specs.Judgement.{judge};
 ghost use Rattle.paper.specs.Edits.{isText, goodItem, attrWith, someValues, goodPiece, opens, opensOrEnds, attrNumber, coming, splice, editing, written, outcome, edit};
+ghost use Rattle.trees.specs.Depth.{openIn};
 ghost use Rattle.edits.specs.Tests.{isAttr, isValue, textTok, passes, names, attrOf, headTok};
 ghost use Rattle.edits.specs.Plan.{planned, planOf};
-ghost use Rattle.edits.specs.Form.{Made, Formed};
+ghost use Rattle.edits.specs.Form.{Level, Made, Formed};
 ghost use Rattle.edits.specs.Written.{cleared};
 ghost use Rattle.edits.specs.Touched.{touchedFirst};
 ghost use Rattle.edits.specs.Outcomes.{outcomeOf, refusal};
@@ -379,10 +381,22 @@ fn misformed(number: u32) -> Form
     }
 }
 
+// "over 64 deep": whether a piece, at its place, is at most 64 deep. No place is deeper, so a piece that opens no element is.
+fn shallow_at(doc: &[u32], at: usize, piece: &[u32]) -> bool
+    requires { ⌜ (at ≤ mostTokens) × (at ≤ length (now doc)) × (openIn (toks (take at (now doc))) ≤ mostDeep) ⌝ }
+    ensures { λ r. ⌜ r ≡ leb (openIn (toks (take at (now (doc .entry)))) + deep 0 (toks (now (piece .entry)))) mostDeep ⌝ }
+{
+    let below = shape::depth(piece);
+    if below == 0 {
+        return true;
+    }
+    below <= paper::MOST_DEEP - shape::open_at(doc, at)
+}
+
 // "result over 8,192 tokens, over 64 deep or over the buffer (5)": the edited tokens, in new.
 fn made(doc: &[u32], used: usize, at: usize, cut: usize, piece: &[u32], new: &mut [u32]) -> Form
     requires { ⌜ (used ≤ mostTokens) × (used ≤ length (now doc)) × (at + cut ≤ used) × (length (now piece) ≤ mostTokens) ⌝ }
-    requires { ⌜ (length (now new) ≡ mostTokens) × (isElement (toks (splice at cut (now piece) (take used (now doc)))) ≡ true) ⌝ }
+    requires { ⌜ (length (now new) ≡ mostTokens) × Level (now doc) used at cut (now piece) ⌝ }
     ensures { λ r. ⌜ Made (length (now (doc .entry))) at (length (now (piece .entry))) (splice at cut (now (piece .entry)) (take used (now (doc .entry)))) r (now (new .exit)) ⌝ }
 {
     let n = piece.len();
@@ -393,10 +407,10 @@ fn made(doc: &[u32], used: usize, at: usize, cut: usize, piece: &[u32], new: &mu
     if doc.len() < left {
         return misformed(5);
     }
-    shape::splice_into(new, doc, used, at, cut, piece);
-    if !shape::shape(new, left) {
+    if !shallow_at(doc, at, piece) {
         return misformed(5);
     }
+    shape::splice_into(new, doc, used, at, cut, piece);
     Form {
         number: 0,
         at,

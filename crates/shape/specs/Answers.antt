@@ -68,7 +68,7 @@ module _ (buf : List ℕ) (used place : ℕ) (l : used ≤ length buf) (h : plac
   item-bad e = rw (next, e)
 
 -- an end is the number 2
-no-end : (n sort : ℕ) → sort < 8 → (sort ≡ 2 → n ≡ 0 → ⊥) → closesOf 0 (token sort n) ≡ false
+pub no-end : (n sort : ℕ) → sort < 8 → (sort ≡ 2 → n ≡ 0 → ⊥) → closesOf 0 (token sort n) ≡ false
 no-end n =
     by-sort (λ s. (s ≡ 2 → n ≡ 0 → ⊥) → closesOf 0 (token s n) ≡ false)
     (λ h. other Bad refl) (λ h. other (Start n) refl) (λ h. rw (ne-eqb n 0 (h refl)) (other Bad refl)) (λ h. other (Text n) refl)

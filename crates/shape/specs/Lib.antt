@@ -11,3 +11,5 @@ pub mod ClosingTurns
 pub mod Inside
 -- What the calls answer
 pub mod Answers
+-- The elements open at a place, and the depth of a piece
+pub mod Depths

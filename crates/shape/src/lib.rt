@@ -1,4 +1,5 @@
-// Loops over a document's tokens: its shape, the ends of its elements, the parent of a place, and a splice into another buffer.
+// Loops over a document's tokens: its shape, the ends of its elements, the parent and the depth of a place, the depth of a piece, and a
+// splice into another buffer.
 //
 // `shape` asks nothing of its arguments. It goes over the tokens once and leaves at the first that may not stand; so does
 // `element_shape`, of a piece. The other calls hold of any tokens, with shape or without; what they ask is that lengths and places
@@ -7,14 +8,15 @@
 use paper::Tok;
 use paper::read_tok;
 ghost use mathlib.Core.Path.{_≡_};
-ghost use mathlib.Core.Bool.{_&&_};
+ghost use mathlib.Core.Bool.{cond, _&&_};
 ghost use mathlib.Core.List.{_++_};
-ghost use Prim.Native.Nat.{_+_, _-_, _^_, _≤_, _<_, _%_, _/_};
+ghost use Prim.Native.Nat.{_+_, _-_, _^_, _≤_, _<_, _%_, _/_, max};
 ghost use lib.ListN.{length, take, drop};
 ghost use lib.Seq.{paste};
 ghost use Rattle.paper.specs.Basics.{mostTokens};
-ghost use Rattle.paper.specs.Tokens.{tokOf, toks, starts, closesOf, levelOf, endOf, itemSize};
+ghost use Rattle.paper.specs.Tokens.{tokOf, toks, starts, closesOf, levelOf, endOf, itemSize, deep};
 ghost use Rattle.paper.specs.Shape.{isElement, shallow, shapeOf};
+ghost use Rattle.trees.specs.Depth.{openIn};
 ghost use Rattle.trees.specs.Touch.{opensOf, backOf, parentOf};
 ghost use Rattle.trees.specs.Move.{Spliced};
 ghost use Rattle.shape.specs.Scan.{rules, rule, stands, passed};
@@ -320,6 +322,73 @@ pub fn parent_of(doc: &[u32], at: usize) -> usize
         k = back(k, t);
     }
     at
+}
+
+// Whether a number is a start's.
+fn start_number(t: u32) -> bool
+    ensures { λ r. ⌜ r ≡ starts (tokOf t) ⌝ }
+{
+    (t % 8 == 1) & (t / 8 <= 65535)
+}
+
+// Whether a number is an end's.
+fn end_number(t: u32) -> bool
+    ensures { λ r. ⌜ r ≡ closesOf 0 (tokOf t) ⌝ }
+{
+    t == 2
+}
+
+// 1 for true, 0 for false.
+fn one(b: bool) -> u32
+    ensures { λ r. ⌜ (r ≡ cond b 1 0) × (r ≤ 1) ⌝ }
+{
+    b as u32
+}
+
+// How many elements are open at a place: the starts before it less the ends. Counted apart, they need no order.
+pub fn open_at(doc: &[u32], at: usize) -> usize
+    requires { ⌜ (at ≤ mostTokens) × (at ≤ length (now doc)) ⌝ }
+    ensures { λ r. ⌜ r ≡ openIn (toks (take at (now (doc .entry)))) ⌝ }
+{
+    let mut starts: u32 = 0;
+    let mut ends: u32 = 0;
+    let mut i: usize = 0;
+    while i < at {
+        let t = doc[i];
+        starts += one(start_number(t));
+        ends += one(end_number(t));
+        i += 1;
+    }
+    if starts < ends {
+        return 0;
+    }
+    wide(starts - ends)
+}
+
+// The larger of two levels.
+fn larger(a: usize, b: usize) -> usize
+    ensures { λ r. ⌜ r ≡ max a b ⌝ }
+{
+    if a < b {
+        return b;
+    }
+    a
+}
+
+// How deep a piece is: its deepest level, with the outermost elements at 1.
+pub fn depth(piece: &[u32]) -> usize
+    ensures { λ r. ⌜ r ≡ deep 0 (toks (now (piece .entry))) ⌝ }
+{
+    let n = piece.len();
+    let mut k: usize = 0;
+    let mut most: usize = 0;
+    let mut i: usize = 0;
+    while i < n {
+        k = level_after(k, read_tok(piece[i]));
+        most = larger(most, k);
+        i += 1;
+    }
+    most
 }
 
 // Copies n tokens of src, from a place on, to a place of dst.

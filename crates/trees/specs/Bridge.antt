@@ -17,7 +17,7 @@ toks-append : (a b : List ℕ) → toks (a ++ b) ≡ toks a ++ toks b
 toks-append [] b = refl
 toks-append (x ∷ a) b = ap (λ r. tokOf x ∷ r) (toks-append a b)
 
-toks-take : (n : ℕ) (a : List ℕ) → toks (take n a) ≡ take n (toks a)
+pub toks-take : (n : ℕ) (a : List ℕ) → toks (take n a) ≡ take n (toks a)
 toks-take zero a = refl
 toks-take (suc n) [] = refl
 toks-take (suc n) (x ∷ a) = ap (λ r. tokOf x ∷ r) (toks-take n a)

@@ -155,7 +155,7 @@ module _ (q : Request) (doc : List ℕ) where
   abbrev cut : ℕ
   cut = spliceCut op (q .place) p (toks doc)
 
-  coming-toks : toks (coming op (q .piece)) ≡ coming op p
+  pub coming-toks : toks (coming op (q .piece)) ≡ coming op p
   coming-toks = by-map toks op (q .piece) [] (q .piece) (q .piece) []
 
   coming-length : length (coming op (q .piece)) ≡ length (coming op p)

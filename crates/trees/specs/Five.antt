@@ -1,21 +1,26 @@
--- The five edits: each keeps the shape, and judging what it touches is judging the whole.
-use mathlib.Core.Path.{_≡_, refl, ap}
-use mathlib.Core.Bool.{true}
+-- The five edits: each keeps the shape, how deep it makes the document is told at its place, and judging what it touches is judging the
+-- whole.
+use mathlib.Core.Path.{_≡_, refl, sym, ap, _∙_}
+use mathlib.Core.Bool.{Bool, true, false}
 use mathlib.Core.List.{List, [], _∷_, append-nil}
-use Prim.Native.Nat.{ℕ, suc, _+_, _≤_, _<_}
+use mathlib.Core.Logic.{_↔_}
+use Prim.Native.Nat.{ℕ, zero, suc, _+_, _≤_, _<_}
 use native.Mathlib.Omega.{arith}
 use native.Mathlib.Nat.{zero-add}
+use borrow.Author.Tests.{le-leb, leb-true}
+use lib.Dec.{leb}
 use lib.ListN.{length, take, drop, length-drop}
 use lib.Seq.{take-length, drop-length}
 use Rattle.paper.specs.declared.Tok.{Tok}
 use Rattle.paper.specs.declared.Tok.the-variants.{Text}
 use Rattle.trees.specs.Attrs.{Put, attr-even, attr-keeps, attr-rest, put-even}
+use Rattle.trees.specs.Depth.{openIn, run-place, open-deep, edit-deep}
 use Rattle.trees.specs.Keep.{Cut, content, element-item, element-parts, item}
 use Rattle.trees.specs.Splice.{cut-item, cut-nothing, edit-keeps, edit-local}
 use Rattle.paper.specs.Edits.{attrAt, attrCut, splice}
 use Rattle.paper.specs.Judgement.{first}
 use Rattle.paper.specs.Shape.{isElement}
-use Rattle.paper.specs.Tokens.{balanced, isStart, itemSize, touched}
+use Rattle.paper.specs.Tokens.{balanced, deep, isStart, itemSize, touched}
 
 -- the piece of an insert or a replace: one element or one text
 pub data Whole : List Tok → Type 0 where
@@ -41,6 +46,14 @@ size-some : (r : List Tok) → 0 < itemSize r → 0 < length r
 size-some [] h = h
 size-some (t ∷ r) h = omega arith
 
+leb-same : (a b lim : ℕ) → (a ≤ lim) ↔ (b ≤ lim) → leb a lim ≡ leb b lim
+leb-same a b lim i = go (leb a lim) (leb b lim) refl refl
+  where
+    go : (x y : Bool) → leb a lim ≡ x → leb b lim ≡ y → leb a lim ≡ leb b lim
+    go true y p q = p ∙ sym (le-leb b lim (i .0 (leb-true a lim p)))
+    go false true p q = le-leb a lim (i .1 (leb-true b lim q)) ∙ sym q
+    go false false p q = p ∙ sym q
+
 module _ (d : List Tok) (e : isElement d ≡ true) where
   pub five-keep : {at n : ℕ} {piece : List Tok} → Allowed d at n piece → isElement (splice at n piece d) ≡ true
   five-keep (insert at t x {piece = piece} s c w) = edit-keeps d piece at 0 e (insert-cut d at t x s c) (whole-item w .0) (whole-item w .1)
@@ -63,3 +76,14 @@ module _ (d : List Tok) (e : isElement d ≡ true) where
   five-local fault given v {at} {n} {piece} w =
       let h = five-even w in
       edit-local fault given d piece at n (h .2) (h .0) (h .1) v
+
+  -- a document of at most lim levels has no more after an edit exactly if the piece has no more below the place
+  module _ (lim : ℕ) (h : deep zero d ≤ lim) where
+    pub five-deep : {at n : ℕ} {piece : List Tok} → Allowed d at n piece → leb (deep zero (splice at n piece d)) lim ≡ leb (openIn (take at d) + deep zero piece) lim
+    five-deep {at} {n} {piece} w =
+        let s = five-even w in
+        leb-same (deep zero (splice at n piece d)) (openIn (take at d) + deep zero piece) lim
+        (edit-deep d piece at n (openIn (take at d)) lim (run-place d at (element-item d e .0)) (s .0) (s .1) h)
+
+    pub place-deep : (at : ℕ) → openIn (take at d) ≤ lim
+    place-deep at = omega (arith, open-deep d at (element-item d e .0))

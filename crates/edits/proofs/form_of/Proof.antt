@@ -1,5 +1,5 @@
 -- `edits::form_of` meets its contract. Assumes nothing.
-use Rattle.edits.specs.Form.{form-none, form-high, form-piece, form-place, form-made, shaped-few, shaped-long, plan-within, come-few, one-element}
+use Rattle.edits.specs.Form.{form-none, form-high, form-piece, form-place, form-made, shaped-few, shaped-long, plan-within, come-few, level-told}
 use borrow.Author.Needs.{needs}
 use Rattle.edits.proofs.form_of.Statement.{statement}
 use Rattle.edits.proofs.form_of.Tie as tie
@@ -38,7 +38,7 @@ coming-requires : tie.Need-coming-requires
 coming-requires c κs = search needs
 
 made-requires : tie.Need-made-requires
-made-requires c κs = search (needs, shaped-few, shaped-long, plan-within, come-few, one-element)
+made-requires c κs = search (needs, shaped-few, shaped-long, plan-within, come-few, level-told)
 
 same-length : tie.Need-same-length
 same-length c = search needs
