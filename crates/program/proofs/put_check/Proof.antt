@@ -30,7 +30,7 @@ put-edits-requires : tie.Need-put-edits-requires
 put-edits-requires c κs =
     let a = c .before .before .before .before .before .before .before .before .before .before .before .before .before .before in
     let p = c .before .before .before .before .before .before .put-line .ensures in
-    (a .pre .0, a .pre .1, put-length (p .0) ∙ a .pre .2, p .1)
+    (a .pre .0, a .pre .1, put-length (p .0) ∙ a .pre .2, omega (arith, p .1))
 
 same-length-3 : tie.Need-same-length-3
 same-length-3 c = search needs
