@@ -16,7 +16,7 @@ use lib.Bits.{bitAnd, bitOr, and-zero-r, and-le-r, or-lt}
 use Rattle.paper.specs.Basics.{all, distinct}
 use Rattle.paper.specs.Sets.{bit, when}
 use Rattle.paper.specs.Table.{chosen, within}
-use Rattle.models.specs.Words.{bit-when}
+use Rattle.content_laws.specs.Words.{bit-when}
 use Rattle.sets.specs.Laws.{clash, and-parts, same-test, bit-zero, bit-or, bit-and, bit-one}
 use Rattle.sets.specs.Chosen.{small, Free, distinct-iff, chosen-none, chosen-take, chosen-small}
 use Rattle.sets.specs.Tests.{every-iff}

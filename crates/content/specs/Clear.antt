@@ -11,10 +11,10 @@ use Rattle.paper.specs.Basics.{mostNames, any, all, distinct, from}
 use Rattle.paper.specs.Expressions.{Expr, names, count, nameAt}
 use Rattle.paper.specs.Sets.{Set, bit, first, follow, clash, ambiguous, firstWord, followWord}
 use Rattle.paper.specs.Table.{chosen}
-use Rattle.models.specs.Tools.{and-iff, tests}
-use Rattle.models.specs.Names.{length-names}
-use Rattle.models.specs.Below.{any-iff}
-use Rattle.models.specs.Words.{first-word, follow-word}
+use Rattle.content_laws.specs.Tools.{and-iff, tests}
+use Rattle.content_laws.specs.Names.{length-names}
+use Rattle.content_laws.specs.Below.{any-iff}
+use Rattle.content_laws.specs.Words.{first-word, follow-word}
 use Rattle.sets.specs.Laws.{same-test, and-parts}
 use Rattle.sets.specs.Chosen.{small, distinct-iff}
 

@@ -7,7 +7,7 @@ use native.Mathlib.Omega.{arith}
 use lib.ListN.{length}
 use Rattle.paper.specs.Expressions.{Expr, name, seq, alt, opt, star, plus, count}
 use Rattle.paper.specs.Schema.{symbolsOf, exprOf}
-use Rattle.models.specs.Symbols.{exprOf-iff}
+use Rattle.content_laws.specs.Symbols.{exprOf-iff}
 
 -- ---- at least one name, at least one symbol
 

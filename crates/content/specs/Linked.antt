@@ -9,7 +9,7 @@ use lib.ListN.{length, getD}
 use lib.Bits.{bitOr, or-step, or-zero-l, or-zero-r}
 use Rattle.paper.specs.Expressions.{Expr, name, seq, alt, opt, count}
 use Rattle.paper.specs.Sets.{when, last, firstWord, lastWord, followWord}
-use Rattle.models.specs.Words.{last-word}
+use Rattle.content_laws.specs.Words.{last-word}
 use Rattle.sets.specs.Joined.{joined, length-joined, joined-at}
 
 -- each word with f's word for its place in it, where the first place is j

@@ -13,8 +13,8 @@ use lib.ListN.{length, drop, getD, set, replicate, length-set, length-replicate,
 use Rattle.paper.specs.Basics.{mostNames, between, all, consIf, pad}
 use Rattle.paper.specs.Expressions.{Expr, name, seq, alt, opt, star, plus, names, count}
 use Rattle.paper.specs.Schema.{symbolsOf, exprOf}
-use Rattle.models.specs.Symbols.{exprOf-iff}
-use Rattle.models.specs.Names.{length-names}
+use Rattle.content_laws.specs.Symbols.{exprOf-iff}
+use Rattle.content_laws.specs.Names.{length-names}
 use Rattle.sets.specs.Laws.{and-parts}
 
 -- the names among the symbols

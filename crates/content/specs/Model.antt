@@ -12,8 +12,8 @@ use Rattle.paper.specs.Basics.{mostNames, from, pad}
 use Rattle.paper.specs.Expressions.{Expr, count}
 use Rattle.paper.specs.Sets.{nullable, follow, firstWord, lastWord, followWord}
 use Rattle.paper.specs.Schema.{exprOf}
-use Rattle.models.specs.Within.{follow-within}
-use Rattle.models.specs.Words.{follow-word}
+use Rattle.content_laws.specs.Within.{follow-within}
+use Rattle.content_laws.specs.Words.{follow-word}
 use Rattle.sets.specs.Laws.{none-zero}
 use Rattle.content.specs.declared.Model.{Model}
 use Rattle.content.specs.Linked.{orFrom, linked}

@@ -12,7 +12,7 @@ use lib.ListN.{length, take, replicate}
 use Rattle.paper.specs.Basics.{mostNames, between, all, from, pad}
 use Rattle.paper.specs.Expressions.{Expr, names, count}
 use Rattle.paper.specs.Sets.{ambiguous, firstWord, followWord}
-use Rattle.models.specs.Names.{length-names}
+use Rattle.content_laws.specs.Names.{length-names}
 use Rattle.sets.specs.Laws.{and-parts}
 use Rattle.sets.specs.Chosen.{small}
 use Rattle.content.specs.declared.Model.{Model}

@@ -13,16 +13,16 @@ use Rattle.paper.specs.Basics.{mostTokens, mostDeep, between}
 use Rattle.paper.specs.Tokens.{toks, tokOf, itemSize, deep}
 use Rattle.paper.specs.Shape.{isElement, shallow, shapeOf}
 use Rattle.paper.specs.Edits.{Request, attrAt, attrCut, goodPiece, goodPlace, spliceAt, spliceCut, coming, splice, edited, fits, formFault}
-use Rattle.trees.specs.Move.{Spliced}
-use Rattle.trees.specs.ShapeTurns.{length-toks}
-use Rattle.trees.specs.Keep.{Cut, element-parts}
-use Rattle.trees.specs.Local.{clash}
-use Rattle.trees.specs.Splice.{cut-item}
-use Rattle.trees.specs.Attrs.{attr-rest}
-use Rattle.trees.specs.Depth.{openIn}
-use Rattle.trees.specs.Bridge.{toks-take}
-use Rattle.trees.specs.Five.{Allowed, insert, remove, replace, replace-root, attribute, five-deep, place-deep}
-use Rattle.trees.specs.EditJudged.{allowed-by, coming-toks, edited-toks}
+use Rattle.shape_laws.specs.Move.{Spliced}
+use Rattle.shape_laws.specs.ShapeTurns.{length-toks}
+use Rattle.shape_laws.specs.Keep.{Cut, element-parts}
+use Rattle.shape_laws.specs.Local.{clash}
+use Rattle.shape_laws.specs.Splice.{cut-item}
+use Rattle.shape_laws.specs.Attrs.{attr-rest}
+use Rattle.shape_laws.specs.Depth.{openIn}
+use Rattle.shape_laws.specs.Bridge.{toks-take}
+use Rattle.shape_laws.specs.Five.{Allowed, insert, remove, replace, replace-root, attribute, five-deep, place-deep}
+use Rattle.shape_laws.specs.EditJudged.{allowed-by, coming-toks, edited-toks}
 use Rattle.edits.specs.declared.Plan.{Plan}
 use Rattle.edits.specs.Plan.{planned, planOf}
 use Rattle.edits.specs.declared.Form.{Form}

@@ -17,13 +17,13 @@ use Rattle.paper.specs.Rules.{ofTable}
 use Rattle.paper.specs.Judgement.{judge}
 use Rattle.paper.specs.Judgement as judgement
 use Rattle.paper.specs.Edits.{Request, spliceAt, spliceCut, coming, edited, touchedBy, refused, done, answered, editing, Outcome, written, outcome, editBy, edit}
-use Rattle.trees.specs.EditJudged.{Asked, form-iff, allowed-by}
+use Rattle.shape_laws.specs.EditJudged.{Asked, form-iff, allowed-by}
 use Rattle.keys.specs.declared.Fault.{Fault}
 use Rattle.edits.specs.declared.Answer.{Answer}
 use Rattle.edits.specs.declared.Form.{Form}
 use Rattle.edits.specs.Form.{Formed, shaped, and-parts, allowed-within, size-is}
 use Rattle.edits.specs.Written.{splice-front}
-use Rattle.trees.specs.ShapeTurns.{length-toks}
+use Rattle.shape_laws.specs.ShapeTurns.{length-toks}
 
 -- with the buffer
 abbrev pub outcomeOf : Answer → List ℕ → Outcome

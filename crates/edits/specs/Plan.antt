@@ -13,8 +13,8 @@ use Rattle.paper.specs.declared.Tok.{Tok}
 use Rattle.paper.specs.declared.Tok.the-variants.{Bad}
 use Rattle.paper.specs.Tokens.{toks, starts, isStart, itemSize, slot, held}
 use Rattle.paper.specs.Edits.{isText, opens, opensOrEnds, atHead, attrNumber, attrAt, attrCut, goodPlace, spliceAt, spliceCut}
-use Rattle.trees.specs.Local.{clash}
-use Rattle.trees.specs.ShapeTurns.{length-toks}
+use Rattle.shape_laws.specs.Local.{clash}
+use Rattle.shape_laws.specs.ShapeTurns.{length-toks}
 use Rattle.edits.specs.declared.Plan.{Plan}
 use Rattle.edits.specs.Tests.{headTok, slot-le}
 use Rattle.edits.specs.Pieces.{by-1, by-2, by-3, by-more}

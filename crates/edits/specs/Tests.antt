@@ -11,8 +11,8 @@ use lib.ListN.{length, take, drop, getD, length-drop, drop-of-length-le}
 use Rattle.paper.specs.declared.Tok.{Tok}
 use Rattle.paper.specs.declared.Tok.the-variants.{Start, End, Text, Attr, Value, Bad}
 use Rattle.paper.specs.Tokens.{tokOf, toks, values, slot, held}
-use Rattle.trees.specs.Ends.{rest-next, rest-none}
-use Rattle.trees.specs.ShapeTurns.{length-toks}
+use Rattle.shape_laws.specs.Ends.{rest-next, rest-none}
+use Rattle.shape_laws.specs.ShapeTurns.{length-toks}
 
 abbrev pub textTok : Tok → Bool
 textTok (Start n) = false

@@ -6,7 +6,7 @@ use native.Mathlib.Omega.{arith}
 use lib.ListN.{length, take, drop, getD, set, replicate, length-set, length-drop, length-replicate, getD-replicate}
 use lib.Seq.{paste, paste-zero, paste-suc, take-paste, drop-paste, take-length, take-take, take-add, take-at, drop-drop, length-take-le}
 use Rattle.paper.specs.Edits.{splice, written}
-use Rattle.trees.specs.Move.{copy-turn}
+use Rattle.shape_laws.specs.Move.{copy-turn}
 
 abbrev pub zeros : ℕ → List ℕ
 zeros n = replicate n 0

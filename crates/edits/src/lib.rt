@@ -23,7 +23,7 @@ ghost use Rattle.paper.specs.Table.{proper};
 ghost use Rattle.paper.specs.Rules.{ofTable};
 ghost use Rattle.paper.specs.Judgement.{judge};
 ghost use Rattle.paper.specs.Edits.{isText, goodItem, attrWith, someValues, goodPiece, opens, opensOrEnds, attrNumber, coming, splice, editing, written, outcome, edit};
-ghost use Rattle.trees.specs.Depth.{openIn};
+ghost use Rattle.shape_laws.specs.Depth.{openIn};
 ghost use Rattle.edits.specs.Tests.{isAttr, isValue, textTok, passes, names, attrOf, headTok};
 ghost use Rattle.edits.specs.Plan.{planned, planOf};
 ghost use Rattle.edits.specs.Form.{Level, Made, Formed};

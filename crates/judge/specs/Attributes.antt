@@ -18,9 +18,9 @@ use Rattle.paper.specs.Table.{tableLength, blockLength, proper, block, cell, al
 use Rattle.paper.specs.Rules.{ofTable}
 use Rattle.paper.specs.Judgement.{present, eachAttr, attributesGood}
 use Rattle.sets.specs.Laws.{clash, bit-or, bit-one, bit-zero, bit-past}
-use Rattle.tables.specs.Parts.{table-parts}
+use Rattle.table_laws.specs.Parts.{table-parts}
 use Rattle.table.specs.Rest.{and-assoc, and-true}
-use Rattle.trees.specs.Ends.{rest-next, rest-none}
+use Rattle.shape_laws.specs.Ends.{rest-next, rest-none}
 use Rattle.judge.specs.declared.Met.{Met}
 use Rattle.judge.specs.declared.Front.{Front}
 

@@ -16,7 +16,7 @@ use Rattle.paper.specs.Table.{proper}
 use Rattle.paper.specs.Rules.{ofTable}
 use Rattle.paper.specs.Judgement.{Answer, before, elementFault, first, startPlace, whole, rootFault, keyFault, judge, checking, check}
 use Rattle.sets.specs.Laws.{and-parts}
-use Rattle.trees.specs.Ends.{rest-next}
+use Rattle.shape_laws.specs.Ends.{rest-next}
 use Rattle.keys.specs.declared.Fault.{Fault}
 use Rattle.judge.specs.Elements.{found, firstIn, first-whole}
 

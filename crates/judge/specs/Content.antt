@@ -18,8 +18,8 @@ use Rattle.paper.specs.Tokens.{tokOf, toks, kids, close}
 use Rattle.paper.specs.Table.{block, cell, kindAt}
 use Rattle.paper.specs.Rules.{State, start, runs, ended, ofTable}
 use Rattle.paper.specs.Judgement.{noText, named, oneText, contentGood}
-use Rattle.trees.specs.Ends.{rest-next, rest-none}
-use Rattle.trees.specs.ShapeTurns.{length-toks}
+use Rattle.shape_laws.specs.Ends.{rest-next, rest-none}
+use Rattle.shape_laws.specs.ShapeTurns.{length-toks}
 use Rattle.shape.specs.Closing.{closing, closing-length, closed-at, close-le}
 use Rattle.table.specs.declared.Run.{Run}
 use Rattle.table.specs.Run.{stateOf, inside, Stepped, onward, onward-step}

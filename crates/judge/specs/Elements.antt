@@ -14,8 +14,8 @@ use Rattle.paper.specs.declared.Tok.the-variants.{Start, End, Text, Attr, Value
 use Rattle.paper.specs.Tokens.{tokOf, toks, heads, kids}
 use Rattle.paper.specs.Rules.{ofTable}
 use Rattle.paper.specs.Judgement.{Answer, none-found, orElse, contentGood, elementFault, faultAt, first, startPlace, whole}
-use Rattle.trees.specs.Ends.{rest-next}
-use Rattle.trees.specs.ShapeTurns.{length-toks}
+use Rattle.shape_laws.specs.Ends.{rest-next}
+use Rattle.shape_laws.specs.ShapeTurns.{length-toks}
 use Rattle.judge.specs.declared.Front.{Front}
 use Rattle.judge.specs.Attributes.{Judged}
 

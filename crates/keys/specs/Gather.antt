@@ -15,7 +15,7 @@ use Rattle.paper.specs.Tokens.{tokOf, toks}
 use Rattle.paper.specs.Table.{proper}
 use Rattle.paper.specs.Rules.{ofTable}
 use Rattle.paper.specs.Judgement.{isId, isRef, valuesOf, idsOf, refsOf}
-use Rattle.trees.specs.Ends.{rest-next, rest-none}
+use Rattle.shape_laws.specs.Ends.{rest-next, rest-none}
 use Rattle.keys.specs.declared.Gathered.{Gathered}
 use Rattle.keys.specs.declared.Kinds.{Kinds}
 use Rattle.keys.specs.Key.{valueCount, keyIn, keysIn, key-is, value-small}

@@ -15,7 +15,7 @@ use Rattle.paper.specs.Table.{blockLength, block, cell, allowedAt, requiredAt, 
 use Rattle.paper.specs.Rules.{ofTable}
 use Rattle.paper.specs.Judgement.{isId, isRef}
 use Rattle.sets.specs.Laws.{and-parts, bit-or, bit-zero, bit-below, bit-past}
-use Rattle.tables.specs.Parts.{every-at, table-parts, block-parts}
+use Rattle.table_laws.specs.Parts.{every-at, table-parts, block-parts}
 use Rattle.keys.specs.declared.Kinds.{Kinds}
 
 -- those of an undeclared element are empty

@@ -54,7 +54,7 @@ fn kinds_of(table: &[u64], e: u32) -> Kinds
     if e as u64 >= table[0] {
         return Kinds { ids: 0, refs: 0 };
     }
-    let at = 2 + e as usize * paper::BLOCK_LENGTH;
+    let at = 2 + e as usize * paper::BLOCK_WORDS;
     Kinds {
         ids: table[at + paper::ID_AT],
         refs: table[at + paper::IDREF_AT] | table[at + paper::IDREFS_AT],

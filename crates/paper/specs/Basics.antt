@@ -16,6 +16,14 @@ mostTokens = 8192
 abbrev pub mostDeep : ℕ
 mostDeep = 64
 
+-- "the number at most 65,535"
+abbrev pub mostNumber : ℕ
+mostNumber = 65535
+
+-- "a file over 65,536 bytes"
+abbrev pub mostFile : ℕ
+mostFile = 65536
+
 -- "the number of elements E, 1 to 48"
 abbrev pub mostElements : ℕ
 mostElements = 48

@@ -1,7 +1,7 @@
 -- Content models: expressions over the numbers of elements, what they mean, and when one is ambiguous. Assumes nothing.
 --
 -- These are the content particles of XML 1.0, section 3.2.1. That the tests in Matching and Sets decide what is said here is
--- proved in the crate `models`.
+-- proved in the crate `content_laws`.
 use mathlib.Core.Path.{_≡_}
 use mathlib.Core.Logic.{_≢_}
 use Prim.Native.Nat.{ℕ, _+_}

@@ -1,6 +1,6 @@
 -- Whether an expression describes a list of names, as a test that needs neither a table nor sets: the names that can have been
 -- read last carry a mark, and each further name moves the marks. That the test says what `Matches` means, of every expression,
--- ambiguous or not, is proved in the crate `models`. Assumes nothing.
+-- ambiguous or not, is proved in the crate `content_laws`. Assumes nothing.
 use mathlib.Core.Bool.{Bool, true, false, _&&_, _||_}
 use mathlib.Core.List.{List, [], _∷_}
 use Prim.Native.Nat.{ℕ}

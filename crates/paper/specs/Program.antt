@@ -5,7 +5,7 @@ use mathlib.Core.List.{List, [], _∷_, _++_, map}
 use Prim.Native.Nat.{ℕ, zero, suc, _+_, _/_, _%_}
 use lib.Dec.{leb, ltb, eqb}
 use lib.ListN.{length, replicate}
-use Rattle.paper.specs.Basics.{mostTokens, concat}
+use Rattle.paper.specs.Basics.{mostTokens, mostFile, concat}
 use Rattle.paper.specs.Files.{largest, Result, refused, made, Counted, counted, reading}
 use Rattle.paper.specs.Schema.{Schema, Parsed, stop, ok, Reader, pure, refuse, _>>=_, number, numbers, schemaOf}
 use Rattle.paper.specs.Rules.{Rules, ofSchema}
@@ -61,7 +61,7 @@ schemaLines (ok s r) doc edits = documentLines (ofSchema s) (reading doc places)
 -- "First, a file over 65,536 bytes or not to be opened stops with 5; then schema, document, check and edits follow in turn."
 abbrev pub opened : Option (List ℕ) → Bool
 opened none = false
-opened (some f) = leb (length f) 65536
+opened (some f) = leb (length f) mostFile
 
 abbrev pub bytesIn : Option (List ℕ) → List ℕ
 bytesIn none = []

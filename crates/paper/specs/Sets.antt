@@ -1,6 +1,6 @@
 -- Sets of occurrences: which can begin a match, end it, and come directly after another; and the test for ambiguity by them.
 -- Each takes b, the number of the expression's first occurrence. That the sets are those of the paper's words, and that the
--- test decides ambiguity, is proved in the crate `models`. Assumes nothing.
+-- test decides ambiguity, is proved in the crate `content_laws`. Assumes nothing.
 use Prim.Native.Nat.{ℕ, _+_, _/_, _%_, _^_}
 use mathlib.Core.Bool.{Bool, true, false, cond, _&&_, _||_}
 use lib.Dec.{eqb}

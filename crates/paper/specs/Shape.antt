@@ -6,14 +6,19 @@ use lib.Dec.{leb, ltb, eqb}
 use lib.ListN.{length, take}
 use Rattle.paper.specs.declared.Tok.{Tok}
 use Rattle.paper.specs.declared.Tok.the-variants.{Start, End, Text, Attr, Value, Bad}
-use Rattle.paper.specs.declared.Phase.{Phase}
-use Rattle.paper.specs.declared.Phase.the-variants.{Head, Named, Valued, Body, Fail}
 use Rattle.paper.specs.Basics.{mostTokens, mostDeep}
 use Rattle.paper.specs.Tokens.{toks, isStart, endOf, deep}
 
 -- "attributes stand directly after their start, numbers strictly rising, each followed by one or more values; values stand
 -- nowhere else": where a scan stands after each token. Head: directly after a start. Named a: after the attribute a.
 -- Valued a: after a value of a. Body: where no attribute may stand. Fail: something stood where it may not.
+pub data Phase : Type 0 where
+  Head : Phase
+  Named : ℕ → Phase
+  Valued : ℕ → Phase
+  Body : Phase
+  Fail : Phase
+
 abbrev pub headOf : Tok → Phase
 headOf (Attr n) = Named n
 headOf (Start n) = Head

@@ -7,6 +7,7 @@ use lib.Dec.{leb, ltb, eqb}
 use lib.ListN.{take, drop}
 use Rattle.paper.specs.declared.Tok.{Tok}
 use Rattle.paper.specs.declared.Tok.the-variants.{Start, End, Text, Attr, Value, Bad}
+use Rattle.paper.specs.Basics.{mostNumber}
 
 -- "A token is number × 8 + sort, the number at most 65,535. Sorts: 1 start of element, 2 end (number 0), 3 text, 4 attribute,
 -- 5 value." Any other number is Bad.
@@ -19,7 +20,7 @@ bySort s n =
     (cond (eqb s 5) (Value n) Bad))))
 
 abbrev pub tokOf : ℕ → Tok
-tokOf t = cond (leb (t / 8) 65535) (bySort (t % 8) (t / 8)) Bad
+tokOf t = cond (leb (t / 8) mostNumber) (bySort (t % 8) (t / 8)) Bad
 
 abbrev pub toks : List ℕ → List Tok
 toks = map tokOf

@@ -1,25 +1,41 @@
 // The paper ("What is to be built") as definitions: see specs/Lib.antt for the order to read them in.
 //
-// The two types that definitions and code share are declared here, with the one function that reads a token.
+// Here stand the paper's numbers, each at its one home, the types that definitions and code share, and the one function that reads a token.
 // Assumes nothing.
 ghost use mathlib.Core.Path.{_≡_};
 ghost use Rattle.paper.specs.Tokens.{tokOf};
 
-// The paper's sizes, for code; specs/Basics.antt and specs/Table.antt have them for definitions.
+// ---- The paper's numbers, for code, under the names of include/shrikemuff.h; specs/ has them for definitions.
+
+// A document or a piece has at most so many tokens, and is at most so deep, with the root at 1.
 pub const MOST_TOKENS: usize = 8192;
 
 pub const MOST_DEEP: usize = 64;
 
+// "the number at most 65,535": a token's
+pub const MOST_NUMBER: u32 = 65535;
+
+// The largest number of a file.
+pub const MOST_VALUE: u32 = 2097151;
+
+// "a file over 65,536 bytes": one that the edit program takes has no more.
+pub const MOST_FILE: usize = 65536;
+
+// A schema has at most so many elements, an element's model so many symbols and names, an element so many attributes.
 pub const MOST_ELEMENTS: usize = 48;
+
+pub const MOST_SYMBOLS: usize = 255;
 
 pub const MOST_NAMES: usize = 64;
 
 pub const MOST_ATTRIBUTES: usize = 64;
 
-// The table: its length, a block's length, and where the parts of a block begin.
-pub const TABLE_LENGTH: usize = 6626;
+// The table: its length, a block's length, where the first block begins, and where the parts of a block begin.
+pub const TABLE_WORDS: usize = 6626;
 
-pub const BLOCK_LENGTH: usize = 138;
+pub const BLOCK_WORDS: usize = 138;
+
+pub const BLOCKS_AT: usize = 2;
 
 pub const KIND_AT: usize = 0;
 
@@ -45,6 +61,94 @@ pub const NAMES_AT: usize = 10;
 
 pub const FOLLOW_AT: usize = 74;
 
+// The kinds of elements.
+pub const EMPTY: u32 = 0;
+
+pub const TEXT_ONLY: u32 = 1;
+
+pub const MODEL: u32 = 2;
+
+// The symbols of a model; the element e is NAMED + e.
+pub const SEQUENCE: u32 = 0;
+
+pub const CHOICE: u32 = 1;
+
+pub const OPTIONAL: u32 = 2;
+
+pub const ZERO_OR_MORE: u32 = 3;
+
+pub const ONE_OR_MORE: u32 = 4;
+
+pub const NAMED: u32 = 5;
+
+// The kinds of attributes, and their statuses.
+pub const CDATA: u32 = 0;
+
+pub const ID: u32 = 1;
+
+pub const IDREF: u32 = 2;
+
+pub const IDREFS: u32 = 3;
+
+pub const REQUIRED: u32 = 0;
+
+pub const IMPLIED: u32 = 1;
+
+// The sorts of tokens: a token is number × SORTS + sort.
+pub const SORTS: u32 = 8;
+
+pub const START: u32 = 1;
+
+pub const END: u32 = 2;
+
+pub const TEXT: u32 = 3;
+
+pub const ATTRIBUTE: u32 = 4;
+
+pub const VALUE: u32 = 5;
+
+// The operations of an edit.
+pub const INSERT: u32 = 1;
+
+pub const REMOVE: u32 = 2;
+
+pub const REPLACE: u32 = 3;
+
+pub const SET: u32 = 4;
+
+pub const DROP: u32 = 5;
+
+// The answers.
+pub const DONE: u32 = 0;
+
+pub const BROKEN: u32 = 1;
+
+pub const SCHEMA: u32 = 2;
+
+pub const AMBIGUOUS: u32 = 3;
+
+pub const SHAPE: u32 = 4;
+
+pub const ROOM: u32 = 5;
+
+pub const PLACE: u32 = 6;
+
+pub const NAME: u32 = 7;
+
+pub const ATTRIBUTES: u32 = 8;
+
+pub const CONTENT: u32 = 9;
+
+pub const ROOT: u32 = 10;
+
+pub const ID_TWICE: u32 = 11;
+
+pub const NO_ID: u32 = 12;
+
+pub const TABLE: u32 = 13;
+
+// ---- Tokens
+
 // A token, read.
 pub enum Tok {
     Start(u32),
@@ -55,40 +159,31 @@ pub enum Tok {
     Bad,
 }
 
-// Where a scan of attributes and values stands.
-pub enum Phase {
-    Head,
-    Named(u32),
-    Valued(u32),
-    Body,
-    Fail,
-}
-
 // "A token is number × 8 + sort, the number at most 65,535." Anything else is Bad.
 pub fn read_tok(t: u32) -> Tok
     ensures { λ r. ⌜ r ≡ tokOf t ⌝ }
 {
-    let s = t % 8;
-    let n = t / 8;
-    if n > 65535 {
+    let s = t % SORTS;
+    let n = t / SORTS;
+    if n > MOST_NUMBER {
         return Tok::Bad;
     }
-    if s == 1 {
+    if s == START {
         return Tok::Start(n);
     }
-    if s == 2 {
+    if s == END {
         if n == 0 {
             return Tok::End;
         }
         return Tok::Bad;
     }
-    if s == 3 {
+    if s == TEXT {
         return Tok::Text(n);
     }
-    if s == 4 {
+    if s == ATTRIBUTE {
         return Tok::Attr(n);
     }
-    if s == 5 {
+    if s == VALUE {
         return Tok::Value(n);
     }
     Tok::Bad

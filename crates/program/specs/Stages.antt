@@ -18,7 +18,7 @@ use Rattle.paper.specs.Program.{Line, halt, line, editLines, checkLines, docume
 use Rattle.numbers.specs.Laws.{tokens-refused}
 use Rattle.docfile.specs.declared.Count.{Count}
 use Rattle.docfile.specs.Outcome.{outcome}
-use Rattle.tables.specs.Translated.{file-proper, file-rules}
+use Rattle.table_laws.specs.Translated.{file-proper, file-rules}
 use Rattle.promises.specs.Numbers.{Stops, schema-stops, read-answers}
 use Rattle.program.specs.Put.{Put, put-both, put-as}
 use Rattle.program.specs.Lines.{lineOf, text, text-none, text-more, Stop, given}

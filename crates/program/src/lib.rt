@@ -5,7 +5,7 @@
 use numbers::Num;
 use numbers::number_at;
 use paper::MOST_TOKENS;
-use paper::TABLE_LENGTH;
+use paper::TABLE_WORDS;
 ghost use mathlib.Core.Path.{_≡_};
 ghost use mathlib.Core.Bool.{true, _&&_};
 ghost use mathlib.Core.Option.{some};
@@ -284,7 +284,7 @@ fn put_schema(schema: &[u8], doc: &[u8], edits: &[u8], out: &mut [u8]) -> usize
     requires { ⌜ (length (now edits) ≤ 65536) × (length (now out) ≡ outputRoom) ⌝ }
     ensures { λ r. ⌜ Put (now (out .entry)) 0 (text (schemaLines (schemaOf (now (schema .entry))) (now (doc .entry)) (now (edits .entry)))) r (now (out .exit)) ⌝ }
 {
-    let mut table = [0u64; TABLE_LENGTH];
+    let mut table = [0u64; TABLE_WORDS];
     let number = schema::translate(schema, &mut table);
     if number != 0 {
         return put_stop(out, 0, number);

@@ -10,7 +10,7 @@ use Rattle.paper.specs.Schema.{Schema, schemaOf}
 use Rattle.paper.specs.Table.{tableLength, tableOf, translated, translate}
 use Rattle.paper.specs.Rules.{ofSchema}
 use Rattle.paper.specs.Edits.{Request, outcome, editBy, edit}
-use Rattle.tables.specs.Translated.{file-proper, file-rules, check-by-expressions, edit-by-expressions}
+use Rattle.table_laws.specs.Translated.{file-proper, file-rules, check-by-expressions, edit-by-expressions}
 use Rattle.promises.specs.Statements.{Translated, TableProper, TableReads, CheckByExpressions}
 
 module _ (s : Schema) (table : List ℕ) (t : Translated s table) where

@@ -20,8 +20,8 @@ use Rattle.paper.specs.Trees.{Given, Forest, nil, txt, elem, flatV, flatA, flat
 use Rattle.paper.specs.Sets.{bit}
 use Rattle.paper.specs.Rules.{Rules, State, start, at, setAt, move, runFrom, ended, ofTable}
 use Rattle.paper.specs.Judgement.{Answer, none-found, orElse, before, attributesGood, contentGood, noText, oneText, named, elementFault, first, startPlace, rootFault, idsOf, refsOf, valueIn, repeated, dangling, keyFault, judge, whole}
-use Rattle.tables.specs.Parts.{and-both, table-parts, block-parts, name-below}
-use Rattle.trees.specs.Tree.{shape-tree}
+use Rattle.table_laws.specs.Parts.{and-both, table-parts, block-parts, name-below}
+use Rattle.shape_laws.specs.Tree.{shape-tree}
 
 -- ---- the children of an element, along the tree
 

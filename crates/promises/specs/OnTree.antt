@@ -12,8 +12,8 @@ use Rattle.paper.specs.Shape.{shapeOf}
 use Rattle.paper.specs.Rules.{ofTable}
 use Rattle.paper.specs.Judgement.{judge}
 use Rattle.paper.specs.Edits.{Request, Outcome, refused, outcome, edited, touchedBy, formFault, answered, editing, editBy, edit, written}
-use Rattle.trees.specs.EditJudged.{form-iff}
-use Rattle.treeedits.specs.Edited.{edited-tree}
+use Rattle.shape_laws.specs.EditJudged.{form-iff}
+use Rattle.edits_laws.specs.Edited.{edited-tree}
 use Rattle.promises.specs.Statements.{InForm, EditIsTreeEdit}
 use Rattle.promises.specs.ShapeParts.{shape-element}
 use Rattle.promises.specs.Always.{edit-leaves}

@@ -20,7 +20,7 @@ use Rattle.paper.specs.Rules.{Rules, ofSchema}
 use Rattle.paper.specs.Judgement.{Answer, none-found, orElse, before, rootFault, elementFault, first, startPlace, repeated, dangling, idsOf, refsOf, valueIn, keyFault, judge, whole, checking}
 use Rattle.paper.specs.Validity.{ValidDocument}
 use Rattle.paper.specs.Edits.{Request, Outcome, refused, done, outcome, edited, touchedBy, formFault, answered, editing, editBy, written}
-use Rattle.trees.specs.EditJudged.{Asked, form-iff, judged-whole, asked-shape}
+use Rattle.shape_laws.specs.EditJudged.{Asked, form-iff, judged-whole, asked-shape}
 use Rattle.promises.specs.Statements.{Translated, Kept, Left, InForm, Right, EachRight, Runs}
 use Rattle.promises.specs.ShapeParts.{and-right, shape-long, shape-element}
 use Rattle.promises.specs.Always.{edit-keeps, edit-leaves}

@@ -9,12 +9,12 @@ use Rattle.paper.specs.SchemaWritten.{formed}
 use Rattle.paper.specs.Rules.{ofSchema}
 use Rattle.paper.specs.Judgement.{Answer, checking}
 use Rattle.paper.specs.Validity.{ValidDocument}
-use Rattle.models.specs.Matching.{matches-iff}
-use Rattle.trees.specs.Tree.{shape-is-tree}
-use Rattle.trees.specs.TreeDepth as tree-depth
-use Rattle.schemas.specs.Written.{bytes-of}
-use Rattle.schemas.specs.Taken.{taken-exactly, ambiguous-exactly}
-use Rattle.validity.specs.Judged.{checked-valid}
+use Rattle.content_laws.specs.Matching.{matches-iff}
+use Rattle.shape_laws.specs.Tree.{shape-is-tree}
+use Rattle.shape_laws.specs.TreeDepth as tree-depth
+use Rattle.schema_laws.specs.Written.{bytes-of}
+use Rattle.schema_laws.specs.Taken.{taken-exactly, ambiguous-exactly}
+use Rattle.judge_laws.specs.Judged.{checked-valid}
 use Rattle.docfile.specs.Theorems.{read-write, write-read}
 use Rattle.promises.specs.Statements as promised
 use Rattle.promises.specs.Statements.{Translated}

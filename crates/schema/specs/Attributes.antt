@@ -13,7 +13,7 @@ use Rattle.paper.specs.Sets.{when}
 use Rattle.paper.specs.Schema.{Attribute, Parsed, stop, ok, Reader, pure, onward, _>>=_, number, kindAfter, attributesFrom}
 use Rattle.paper.specs.Table.{blockLength, kindAt, allowedAt, requiredAt, idAt, idrefAt, idrefsAt, setOf, ofKind, isRequired}
 use Rattle.content.specs.Linked.{or-assoc}
-use Rattle.tables.specs.Readers.{after, number-in}
+use Rattle.table_laws.specs.Readers.{after, number-in}
 use Rattle.schema.specs.declared.Step.{Step}
 use Rattle.schema.specs.declared.Declared.{Declared}
 use Rattle.schema.specs.declared.Attributes.{Attributes}

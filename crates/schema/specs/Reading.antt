@@ -13,7 +13,7 @@ use Rattle.paper.specs.Schema.{Parsed, stop, ok, pure, onward, valued, number}
 use Rattle.numbers.specs.At.{numAt, Stands, at-got, at-broken}
 use Rattle.numbers.specs.declared.Num.{Num}
 use Rattle.numbers.specs.declared.Num.the-variants.{Broken, Got}
-use Rattle.tables.specs.Readers.{number-in, never-stop}
+use Rattle.table_laws.specs.Readers.{number-in, never-stop}
 use Rattle.schema.specs.declared.Step.{Step}
 use Rattle.schema.specs.declared.Place.{Place}
 

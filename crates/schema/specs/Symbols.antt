@@ -13,7 +13,7 @@ use Rattle.paper.specs.Basics.{between, all}
 use Rattle.paper.specs.Files.{Front, broken, got, second, third, front}
 use Rattle.paper.specs.Schema.{stop, ok, valued, number, numbers}
 use Rattle.numbers.specs.Laws.{never, and-parts}
-use Rattle.tables.specs.Readers.{never-stop, after, number-in}
+use Rattle.table_laws.specs.Readers.{never-stop, after, number-in}
 use Rattle.schema.specs.declared.Step.{Step}
 use Rattle.schema.specs.Reading.{Ended, ended-stop, ended-went, Numbered, value-of, prefixed, prefixed-none, prefixed-more}
 

@@ -9,7 +9,7 @@ use content::read_model;
 use numbers::Num;
 use numbers::number_at;
 use paper::ALLOWED_AT;
-use paper::BLOCK_LENGTH;
+use paper::BLOCK_WORDS;
 use paper::COUNT_AT;
 use paper::FIRST_AT;
 use paper::FOLLOW_AT;
@@ -21,7 +21,7 @@ use paper::LAST_AT;
 use paper::NAMES_AT;
 use paper::NO_CHILD_AT;
 use paper::REQUIRED_AT;
-use paper::TABLE_LENGTH;
+use paper::TABLE_WORDS;
 use sets::with;
 ghost use mathlib.Core.Path.{_≡_};
 ghost use Prim.Native.Nat.{_+_, _≤_, _<_, _^_};
@@ -147,7 +147,7 @@ fn put_symbols(symbols: &[u8], block: &mut [u64]) -> u32
     requires { ⌜ (InRange (now symbols)) × (now block ≡ replicate blockLength 0) ⌝ }
     ensures { λ r. ⌜ ModelIn (now (symbols .entry)) (now (block .exit)) r ⌝ }
 {
-    let m = read_model(symbols, &mut block[FOLLOW_AT..BLOCK_LENGTH]);
+    let m = read_model(symbols, &mut block[FOLLOW_AT..BLOCK_WORDS]);
     if !m.ok {
         return VALUE;
     }
@@ -156,7 +156,7 @@ fn put_symbols(symbols: &[u8], block: &mut [u64]) -> u32
         m.count,
         m.first,
         &block[NAMES_AT..FOLLOW_AT],
-        &block[FOLLOW_AT..BLOCK_LENGTH],
+        &block[FOLLOW_AT..BLOCK_WORDS],
     ) {
         return AMBIGUOUS;
     }
@@ -393,7 +393,7 @@ fn put_elements(file: &[u8], at: usize, elements: u32, table: &mut [u64]) -> Pla
     let mut start: usize = 2;
     let mut i: u32 = 0;
     while i < elements {
-        let end = start + BLOCK_LENGTH;
+        let end = start + BLOCK_WORDS;
         let x = put_element(file, place, elements, &mut table[start..end]);
         if x.number != 0 {
             return x;
@@ -446,10 +446,10 @@ fn copy(from: &[u64], to: &mut [u64])
 pub fn translate(file: &[u8], table: &mut [u64]) -> u32
     ensures { λ r. ⌜ (r, now (table .exit)) ≡ Table.translate (now (file .entry)) (now (table .entry)) ⌝ }
 {
-    if table.len() != TABLE_LENGTH {
+    if table.len() != TABLE_WORDS {
         return TABLE;
     }
-    let mut made = [0u64; TABLE_LENGTH];
+    let mut made = [0u64; TABLE_WORDS];
     let number = put_schema(file, &mut made);
     if number != 0 {
         return number;

@@ -13,8 +13,8 @@ use Rattle.paper.specs.declared.Tok.the-variants.{Start, End, Text, Attr, Value
 use Rattle.paper.specs.Basics.{mostTokens}
 use Rattle.paper.specs.Tokens.{tokOf, toks, starts, closesOf, endOf, itemSize}
 use Rattle.paper.specs.Shape.{isElement, shallow, shapeOf}
-use Rattle.trees.specs.Ends.{rest-next}
-use Rattle.trees.specs.ShapeTurns.{length-toks}
+use Rattle.shape_laws.specs.Ends.{rest-next}
+use Rattle.shape_laws.specs.ShapeTurns.{length-toks}
 use Rattle.shape.specs.ScanTurns.{token, by-sort}
 use Rattle.shape.specs.Closing.{closingAt, close-le}
 

@@ -12,8 +12,8 @@ use lib.Seq.{take-suc, append-snoc, set-at, length-take-le, drop-drop, getD-appe
 use Rattle.paper.specs.declared.Tok.{Tok}
 use Rattle.paper.specs.declared.Tok.the-variants.{Start, End, Text, Attr, Value, Bad}
 use Rattle.paper.specs.Tokens.{tokOf, toks, close}
-use Rattle.trees.specs.Ends.{rest-next, rest-none}
-use Rattle.trees.specs.ShapeTurns.{length-toks}
+use Rattle.shape_laws.specs.Ends.{rest-next, rest-none}
+use Rattle.shape_laws.specs.ShapeTurns.{length-toks}
 use Rattle.shape.specs.Closing.{closing, closingAt, close-le, close-outer, close-none, closing-length, closing-at}
 
 -- from place p on all is written, and e is what stands at p

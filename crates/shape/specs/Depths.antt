@@ -13,8 +13,8 @@ use mir.Val.{boolByte}
 use Rattle.paper.specs.declared.Tok.{Tok}
 use Rattle.paper.specs.declared.Tok.the-variants.{Start, End, Text, Attr, Value, Bad}
 use Rattle.paper.specs.Tokens.{tokOf, toks, starts, closesOf, levelOf, deep}
-use Rattle.trees.specs.Depth.{count, openIn}
-use Rattle.trees.specs.Ends.{rest-next, rest-none, level-le, deep-turn, deep-out}
+use Rattle.shape_laws.specs.Depth.{count, openIn}
+use Rattle.shape_laws.specs.Ends.{rest-next, rest-none, level-le, deep-turn, deep-out}
 use Rattle.shape.specs.ScanTurns.{token, by-sort}
 use Rattle.shape.specs.Answers.{no-end}
 

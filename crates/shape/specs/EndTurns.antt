@@ -7,8 +7,8 @@ use native.Mathlib.Omega.{arith}
 use lib.ListN.{length, getD, take, drop}
 use Rattle.paper.specs.declared.Tok.{Tok}
 use Rattle.paper.specs.Tokens.{tokOf, toks, close, closesOf, levelOf, endOf}
-use Rattle.trees.specs.Ends.{close-stop, close-go, close-out, level-le, end-begin}
-use Rattle.trees.specs.Touch.{Loose, loose-begin, loose-turn, loose-found, loose-none, back-le, opensOf, backOf, parentOf}
+use Rattle.shape_laws.specs.Ends.{close-stop, close-go, close-out, level-le, end-begin}
+use Rattle.shape_laws.specs.Touch.{Loose, loose-begin, loose-turn, loose-found, loose-none, back-le, opensOf, backOf, parentOf}
 
 -- before place i, at level k below the open element
 pub record Ending (buf : List ℕ) (used place i k : ℕ) : Type 0 where

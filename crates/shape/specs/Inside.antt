@@ -11,9 +11,9 @@ use Rattle.paper.specs.declared.Tok.{Tok}
 use Rattle.paper.specs.declared.Tok.the-variants.{Start, End, Text, Attr, Value, Bad}
 use Rattle.paper.specs.Tokens.{close, endOf, isStart, itemSize}
 use Rattle.paper.specs.Shape.{isElement}
-use Rattle.trees.specs.Keep.{Cut, element-parts}
-use Rattle.trees.specs.Local.{clash}
-use Rattle.trees.specs.Splice.{cut-item}
+use Rattle.shape_laws.specs.Keep.{Cut, element-parts}
+use Rattle.shape_laws.specs.Local.{clash}
+use Rattle.shape_laws.specs.Splice.{cut-item}
 
 -- a start's item is the element
 start-item : (r : List Tok) → isStart r ≡ true → itemSize r ≡ suc (suc (close zero (drop 1 r)))

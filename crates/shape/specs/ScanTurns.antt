@@ -11,14 +11,13 @@ use lib.Dec.{leb, ltb, eqb, eqb·suc-suc, eqb·suc-zero}
 use lib.ListN.{length, getD, take, drop}
 use Rattle.paper.specs.declared.Tok.{Tok}
 use Rattle.paper.specs.declared.Tok.the-variants.{Start, End, Text, Attr, Value, Bad}
-use Rattle.paper.specs.declared.Phase.{Phase}
-use Rattle.paper.specs.declared.Phase.the-variants.{Head, Named, Valued, Body, Fail}
+use Rattle.paper.specs.Shape.{Phase, Head, Named, Valued, Body, Fail}
 use Rattle.paper.specs.Basics.{mostDeep, null}
 use Rattle.paper.specs.Tokens.{bySort, tokOf, toks, close, levelOf, deep, starts, isStart, endOf}
 use Rattle.paper.specs.Shape.{phaseOf, phases, isBody, isElement, shallow}
-use Rattle.trees.specs.Ends.{rest-next, rest-none, deep-ge}
-use Rattle.trees.specs.Keep.{fails}
-use Rattle.trees.specs.Local.{clash}
+use Rattle.shape_laws.specs.Ends.{rest-next, rest-none, deep-ge}
+use Rattle.shape_laws.specs.Keep.{fails}
+use Rattle.shape_laws.specs.Local.{clash}
 use Rattle.shape.specs.declared.Scan.{Scan}
 use Rattle.shape.specs.Scan.{rules, follow, numbers, rise, isAttribute, isValue, holds, stands, passed}
 

@@ -16,9 +16,9 @@ ghost use lib.Seq.{paste};
 ghost use Rattle.paper.specs.Basics.{mostTokens};
 ghost use Rattle.paper.specs.Tokens.{tokOf, toks, starts, closesOf, levelOf, endOf, itemSize, deep};
 ghost use Rattle.paper.specs.Shape.{isElement, shallow, shapeOf};
-ghost use Rattle.trees.specs.Depth.{openIn};
-ghost use Rattle.trees.specs.Touch.{opensOf, backOf, parentOf};
-ghost use Rattle.trees.specs.Move.{Spliced};
+ghost use Rattle.shape_laws.specs.Depth.{openIn};
+ghost use Rattle.shape_laws.specs.Touch.{opensOf, backOf, parentOf};
+ghost use Rattle.shape_laws.specs.Move.{Spliced};
 ghost use Rattle.shape.specs.Scan.{rules, rule, stands, passed};
 ghost use Rattle.shape.specs.Closing.{closing, closingAt};
 

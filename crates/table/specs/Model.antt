@@ -13,7 +13,7 @@ use Rattle.paper.specs.Basics.{all, mostNames, mostElements, distinct}
 use Rattle.paper.specs.Table.{cell, countAt, noChildAt, firstAt, lastAt, namesAt, followAt, zeros, properNext, properModel, blockLength, chosen}
 use Rattle.sets.specs.Chosen.{small}
 use Rattle.sets.specs.Laws.{and-parts, clash, same-test}
-use Rattle.tables.specs.Parts.{model-parts}
+use Rattle.table_laws.specs.Parts.{model-parts}
 use Rattle.content.specs.Clear.{isClear, Bounded}
 use Rattle.table.specs.Union.{union, or-lowest, union-lowest}
 

@@ -13,7 +13,7 @@ use lib.Seq.{getD-drop}
 use Rattle.paper.specs.Basics.{all, mostNames}
 use Rattle.paper.specs.Table.{blockLength, block, cell, kindAt, countAt, firstAt, namesAt, followAt, zeros, properNext, properBlock, proper}
 use Rattle.paper.specs.Rules.{State, start, at, move, runFrom}
-use Rattle.tables.specs.Parts.{all-at, ProperModel, block-parts, table-parts}
+use Rattle.table_laws.specs.Parts.{all-at, ProperModel, block-parts, table-parts}
 use Rattle.table.specs.Block.{block-length}
 use Rattle.table.specs.declared.Run.{Run}
 use Rattle.table.specs.declared.Run.the-variants.{Start, At, Lost}

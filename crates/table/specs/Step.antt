@@ -19,7 +19,7 @@ use Rattle.sets.specs.Chosen.{chosen-none, chosen-take}
 use Rattle.sets.specs.Named.{Named, place, named-find}
 use Rattle.sets.specs.declared.Next.{Next}
 use Rattle.sets.specs.declared.Next.the-variants.{At as There, Nowhere}
-use Rattle.tables.specs.Parts.{all-at}
+use Rattle.table_laws.specs.Parts.{all-at}
 use Rattle.table.specs.Run.{stateOf, stepped, inside, sound, Ready, Stepped}
 use Rattle.table.specs.declared.Run.{Run}
 use Rattle.table.specs.declared.Run.the-variants.{Start, At, Lost}

@@ -1,5 +1,5 @@
 -- What those who call this crate may cite, in one place. Nothing here is new: each line cites the module that proves it. What a
--- proper table has, part by part, stands in the crate `tables`, in `Parts`. Assumes nothing.
+-- proper table has, part by part, stands in the crate `table_laws`, in `Parts`. Assumes nothing.
 use mathlib.Core.Path.{_≡_, sym, _∙_}
 use mathlib.Core.Bool.{true}
 use mathlib.Core.Option.{Option}

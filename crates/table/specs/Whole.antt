@@ -11,7 +11,7 @@ use lib.Seq.{take-all}
 use Rattle.paper.specs.Basics.{mostElements, every}
 use Rattle.paper.specs.Table.{tableLength, blockLength, block, zeros, properBlock, proper}
 use Rattle.sets.specs.Laws.{clash, same-test}
-use Rattle.tables.specs.Parts.{every-at, table-parts}
+use Rattle.table_laws.specs.Parts.{every-at, table-parts}
 use Rattle.table.specs.Rest.{and-true}
 
 -- ---- its blocks, one after the other

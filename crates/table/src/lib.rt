@@ -5,7 +5,7 @@
 // joined into one word, so that a table is read once, with no branch for each number. The readers and the run ask for a table of
 // the right length or a proper block. Nothing is written. Assumes nothing.
 use paper::ALLOWED_AT;
-use paper::BLOCK_LENGTH;
+use paper::BLOCK_WORDS;
 use paper::COUNT_AT;
 use paper::FIRST_AT;
 use paper::FOLLOW_AT;
@@ -19,7 +19,7 @@ use paper::MOST_NAMES;
 use paper::NAMES_AT;
 use paper::NO_CHILD_AT;
 use paper::REQUIRED_AT;
-use paper::TABLE_LENGTH;
+use paper::TABLE_WORDS;
 use sets::Next;
 use sets::has;
 use sets::is_apart;
@@ -157,8 +157,8 @@ pub fn block_of(table: &[u64], e: usize) -> &[u64]
     requires { ⌜ (length (now table) ≡ tableLength) × (e < mostElements) ⌝ }
     ensures { λ r. ⌜ now r ≡ block (now (table .entry)) e ⌝ }
 {
-    let start = 2 + e * BLOCK_LENGTH;
-    let end = start + BLOCK_LENGTH;
+    let start = 2 + e * BLOCK_WORDS;
+    let end = start + BLOCK_WORDS;
     &table[start..end]
 }
 
@@ -167,7 +167,7 @@ pub fn cell(table: &[u64], e: usize, i: usize) -> u64
     requires { ⌜ (length (now table) ≡ tableLength) × (e < mostElements) × (i < blockLength) ⌝ }
     ensures { λ r. ⌜ r ≡ Table.cell (block (now (table .entry)) e) i ⌝ }
 {
-    table[2 + e * BLOCK_LENGTH + i]
+    table[2 + e * BLOCK_WORDS + i]
 }
 
 // The blocks of the elements are proper.
@@ -191,7 +191,7 @@ fn proper_blocks(table: &[u64], elements: u64) -> bool
 pub fn proper(table: &[u64]) -> bool
     ensures { λ r. ⌜ r ≡ Table.proper (now (table .entry)) ⌝ }
 {
-    if table.len() != TABLE_LENGTH {
+    if table.len() != TABLE_WORDS {
         return false;
     }
     let elements = table[0];
@@ -204,7 +204,7 @@ pub fn proper(table: &[u64]) -> bool
     if table[1] >= elements {
         return false;
     }
-    let end = 2 + elements as usize * BLOCK_LENGTH;
+    let end = 2 + elements as usize * BLOCK_WORDS;
     if !all_zero(&table[end..]) {
         return false;
     }

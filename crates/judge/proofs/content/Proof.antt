@@ -1,7 +1,7 @@
 -- `judge::content` meets its contract. Assumes nothing.
 use native.Mathlib.Omega.{arith}
 use borrow.Author.Needs.{needs}
-use Rattle.tables.specs.Parts.{table-parts}
+use Rattle.table_laws.specs.Parts.{table-parts}
 use Rattle.table.specs.Run.{ready-table}
 use Rattle.judge.specs.Content.{content-texts, content-model}
 use Rattle.judge.specs.Attributes.{in-table}

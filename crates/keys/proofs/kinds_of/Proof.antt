@@ -1,7 +1,7 @@
 -- `keys::kinds_of` meets its contract. Assumes nothing.
 use borrow.Author.Needs.{needs}
 use native.Mathlib.Omega.{arith}
-use Rattle.tables.specs.Parts.{table-parts}
+use Rattle.table_laws.specs.Parts.{table-parts}
 use Rattle.keys.specs.Kinds.{read-fits, kinds-none, kinds-some}
 use Rattle.keys.proofs.kinds_of.Statement.{statement}
 use Rattle.keys.proofs.kinds_of.Tie as tie

@@ -1,4 +1,4 @@
-use Rattle.trees.specs.Touch.{back-start, back-end}
+use Rattle.shape_laws.specs.Touch.{back-start, back-end}
 use borrow.Author.Needs.{needs}
 use Rattle.shape.proofs.back.Statement.{statement}
 use Rattle.shape.proofs.back.Tie as tie

@@ -1,4 +1,4 @@
-use Rattle.trees.specs.Move.{copy-turn}
+use Rattle.shape_laws.specs.Move.{copy-turn}
 use borrow.Author.Needs.{needs}
 use lib.Seq.{paste, paste-zero}
 use lib.ListN.{length, drop, length-set}

@@ -1,4 +1,4 @@
-use Rattle.trees.specs.Ends.{close-end}
+use Rattle.shape_laws.specs.Ends.{close-end}
 use borrow.Author.Needs.{needs}
 use Rattle.shape.proofs.is_close.Statement.{statement}
 use Rattle.shape.proofs.is_close.Tie as tie

@@ -1,4 +1,4 @@
-use Rattle.trees.specs.Ends.{level-end, level-start}
+use Rattle.shape_laws.specs.Ends.{level-end, level-start}
 use borrow.Author.Needs.{needs}
 use Rattle.shape.proofs.level_after.Statement.{statement}
 use Rattle.shape.proofs.level_after.Tie as tie

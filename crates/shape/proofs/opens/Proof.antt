@@ -1,4 +1,4 @@
-use Rattle.trees.specs.Touch.{opens-start}
+use Rattle.shape_laws.specs.Touch.{opens-start}
 use borrow.Author.Needs.{needs}
 use Rattle.shape.proofs.opens.Statement.{statement}
 use Rattle.shape.proofs.opens.Tie as tie

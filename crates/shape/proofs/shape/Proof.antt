@@ -1,4 +1,4 @@
-use Rattle.trees.specs.ShapeTurns.{shape-low, shape-high, shape-past}
+use Rattle.shape_laws.specs.ShapeTurns.{shape-low, shape-high, shape-past}
 use Rattle.shape.specs.Answers.{shape-element}
 use borrow.Author.Needs.{needs}
 use Rattle.shape.proofs.shape.Statement.{statement}

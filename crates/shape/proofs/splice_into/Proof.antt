@@ -1,4 +1,4 @@
-use Rattle.trees.specs.Move.{spliced-made}
+use Rattle.shape_laws.specs.Move.{spliced-made}
 use borrow.Author.Needs.{needs}
 use Rattle.shape.proofs.splice_into.Statement.{statement}
 use Rattle.shape.proofs.splice_into.Tie as tie

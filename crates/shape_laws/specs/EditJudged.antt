@@ -1,0 +1,278 @@
+-- An edit of a valid document: judged at what it touches, it gets the answer of judging the whole edited document; and a done
+-- edit leaves a valid document. Assumes nothing.
+use mathlib.Core.Path.{_≡_, refl, sym, ap, ap₂, _∙_, subst}
+use mathlib.Core.Logic.{_↔_}
+use mathlib.Core.Bool.{Bool, true, false, cond, not, _&&_, _||_}
+use mathlib.Core.List.{List, [], _∷_}
+use Prim.Native.Nat.{ℕ, zero, suc, _≤_, _<_}
+use native.Mathlib.Omega.{arith}
+use borrow.Author.Tests.{leb-true, eqb-true, le-leb}
+use lib.Dec.{leb, ltb, eqb}
+use lib.ListN.{length, drop, length-map}
+use lib.Seq.{take-length}
+use Rattle.paper.specs.declared.Tok.{Tok}
+use Rattle.paper.specs.declared.Tok.the-variants.{Start, End, Text, Attr, Value, Bad}
+use Rattle.paper.specs.Basics.{mostTokens, between}
+use Rattle.paper.specs.Tokens.{toks, tokOf, isStart, itemSize, values, touched}
+use Rattle.paper.specs.Shape.{isElement, shallow, shapeOf}
+use Rattle.paper.specs.Rules.{Rules}
+use Rattle.paper.specs.Judgement.{Answer, none-found, orElse, before, rootFault, keyFault, faultAt, first, startPlace, elementFault, judge, whole}
+use Rattle.paper.specs.Edits.{Request, byOperation, isText, goodItem, attrWith, someValues, goodPiece, opens, opensOrEnds, atHead, attrNumber, attrCut, goodPlace, spliceAt, spliceCut, coming, splice, edited, touchedBy, refused, done, answered, fits, formFault, editing}
+use Rattle.shape_laws.specs.Local.{clash}
+use Rattle.shape_laws.specs.Keep.{content, element-parts}
+use Rattle.shape_laws.specs.Attrs.{Put, gone, given}
+use Rattle.shape_laws.specs.Bridge.{toks-splice}
+use Rattle.shape_laws.specs.Five.{Whole, element, one-text, Allowed, insert, remove, replace, replace-root, attribute, five-keep, five-local}
+
+and-parts : (a b : Bool) → a && b ≡ true → (a ≡ true) × (b ≡ true)
+and-parts true b e = (refl, e)
+and-parts false b e = clash e refl
+
+-- ---- the tests of the paper give an edit that is allowed
+
+text-whole : (p : List Tok) → isText p ≡ true → Whole p
+text-whole [] e = clash e refl
+text-whole (Text n ∷ []) e = one-text
+text-whole (Text n ∷ x ∷ p) e = clash e refl
+text-whole (Start n ∷ p) e = clash e refl
+text-whole (End ∷ p) e = clash e refl
+text-whole (Attr n ∷ p) e = clash e refl
+text-whole (Value n ∷ p) e = clash e refl
+text-whole (Bad ∷ p) e = clash e refl
+
+item-whole : (p : List Tok) → goodItem p ≡ true → Whole p
+item-whole p h = go (isText p) refl h
+  where
+    go : (b : Bool) → isText p ≡ b → b || (isElement p && shallow p) ≡ true → Whole p
+    go true t h = text-whole p t
+    go false t h = element (and-parts (isElement p) (shallow p) h .0)
+
+item-element : (p : List Tok) → goodItem p ≡ true → not (isText p) ≡ true → isElement p ≡ true
+item-element p h n = go (isText p) h n
+  where
+    go : (b : Bool) → b || (isElement p && shallow p) ≡ true → not b ≡ true → isElement p ≡ true
+    go true h n = clash n refl
+    go false h n = and-parts (isElement p) (shallow p) h .0
+
+opens-size : (r : List Tok) → atHead opens r ≡ true → 0 < itemSize r
+opens-size [] e = clash e refl
+opens-size (Start n ∷ r) e = omega arith
+opens-size (Text n ∷ r) e = omega arith
+opens-size (End ∷ r) e = clash e refl
+opens-size (Attr n ∷ r) e = clash e refl
+opens-size (Value n ∷ r) e = clash e refl
+opens-size (Bad ∷ r) e = clash e refl
+
+same-content : (t : Tok) → opensOrEnds t ≡ true → content t ≡ true
+same-content (Start n) e = refl
+same-content (Text n) e = refl
+same-content End e = refl
+same-content (Attr n) e = e
+same-content (Value n) e = e
+same-content Bad e = e
+
+insert-at : (d p : List Tok) (at : ℕ) → atHead opensOrEnds (drop (suc at) d) ≡ true → Whole p → Allowed d (suc at) 0 p
+insert-at d p at h w = go (drop (suc at) d) refl h
+  where
+    go : (r : List Tok) → drop (suc at) d ≡ r → atHead opensOrEnds r ≡ true → Allowed d (suc at) 0 p
+    go [] e h = clash h refl
+    go (t ∷ x) e h = insert at t x e (same-content t h) w
+
+values-put : (a : ℕ) (p : List Tok) → someValues p ≡ true → Put a (Attr a ∷ p)
+values-put a [] e = clash e refl
+values-put a (Value v ∷ vs) e = given v vs (let h = eqb-true (suc (values vs)) (suc (length vs)) e in omega arith)
+values-put a (Start n ∷ vs) e = let h = eqb-true 0 (suc (length vs)) e in absurd (omega arith)
+values-put a (End ∷ vs) e = let h = eqb-true 0 (suc (length vs)) e in absurd (omega arith)
+values-put a (Text n ∷ vs) e = let h = eqb-true 0 (suc (length vs)) e in absurd (omega arith)
+values-put a (Attr n ∷ vs) e = let h = eqb-true 0 (suc (length vs)) e in absurd (omega arith)
+values-put a (Bad ∷ vs) e = let h = eqb-true 0 (suc (length vs)) e in absurd (omega arith)
+
+set-put : (p : List Tok) → attrWith someValues p ≡ true → Put (attrNumber p) p
+set-put [] e = clash e refl
+set-put (Attr a ∷ p) e = values-put a p e
+set-put (Start n ∷ p) e = clash e refl
+set-put (End ∷ p) e = clash e refl
+set-put (Text n ∷ p) e = clash e refl
+set-put (Value n ∷ p) e = clash e refl
+set-put (Bad ∷ p) e = clash e refl
+
+root-size : (d : List Tok) → isElement d ≡ true → itemSize d ≡ length d
+root-size [] e = clash (element-parts [] e .0) refl
+root-size (Start n ∷ d) e = element-parts (Start n ∷ d) e .1
+root-size (End ∷ d) e = clash (element-parts (End ∷ d) e .0) refl
+root-size (Text n ∷ d) e = clash (element-parts (Text n ∷ d) e .0) refl
+root-size (Attr n ∷ d) e = clash (element-parts (Attr n ∷ d) e .0) refl
+root-size (Value n ∷ d) e = clash (element-parts (Value n ∷ d) e .0) refl
+root-size (Bad ∷ d) e = clash (element-parts (Bad ∷ d) e .0) refl
+
+module _ (d p : List Tok) (e : isElement d ≡ true) where
+  pub allowed-by : (op place : ℕ) → between 1 5 op ≡ true → goodPiece op p ≡ true → goodPlace op place p d ≡ true
+      → Allowed d (spliceAt op place p d) (spliceCut op place p d) (coming op p)
+  unfolding goodPiece goodPlace
+  allowed-by zero place o g h = clash o refl
+  allowed-by (suc zero) zero o g h = clash (and-parts (atHead opensOrEnds d) false h .1) refl
+  allowed-by (suc zero) (suc at) o g h =
+      insert-at d p at (and-parts (atHead opensOrEnds (drop (suc at) d)) (ltb 0 (suc at)) h .0) (item-whole p (and-parts (leb (length p) mostTokens) (goodItem p) g .1))
+  allowed-by (suc (suc zero)) zero o g h = clash (and-parts (atHead opens d) false h .1) refl
+  allowed-by (suc (suc zero)) (suc at) o g h = remove at (opens-size (drop (suc at) d) (and-parts (atHead opens (drop (suc at) d)) (ltb 0 (suc at)) h .0))
+  allowed-by (suc (suc (suc zero))) zero o g h =
+      let f = item-element p (and-parts (leb (length p) mostTokens) (goodItem p) g .1) (and-parts (atHead opens d) (not (isText p)) h .1) in
+      subst (λ n. Allowed d 0 n p) (sym (root-size d e)) (replace-root f)
+  allowed-by (suc (suc (suc zero))) (suc at) o g h =
+      replace at (opens-size (drop (suc at) d) (and-parts (atHead opens (drop (suc at) d)) (ltb 0 (suc at) || not (isText p)) h .0))
+      (item-whole p (and-parts (leb (length p) mostTokens) (goodItem p) g .1))
+  allowed-by (suc (suc (suc (suc zero)))) place o g h =
+      attribute (attrNumber p) place h (set-put p (and-parts (leb (length p) mostTokens) (attrWith someValues p) g .1))
+  allowed-by (suc (suc (suc (suc (suc zero))))) place o g h =
+      attribute (attrNumber p) place (and-parts (isStart (drop place d)) (ltb 0 (attrCut (attrNumber p) place d)) h .0) gone
+  allowed-by (suc (suc (suc (suc (suc (suc op)))))) place o g h =
+      let f = leb-true (suc (suc (suc (suc (suc (suc op)))))) 5 (and-parts (leb 1 (suc (suc (suc (suc (suc (suc op))))))) (leb (suc (suc (suc (suc (suc (suc op)))))) 5) o .1) in
+      absurd (omega arith)
+
+-- ---- in numbers and in tokens
+
+module _ {A B : Type 0} (f : A → B) where
+  by-map : (op : ℕ) (a b c d e : A) → f (byOperation op a b c d e) ≡ byOperation op (f a) (f b) (f c) (f d) (f e)
+  by-map op a b c d e = go (eqb op 1) (eqb op 2) (eqb op 3) (eqb op 4)
+    where
+      go : (x y z w : Bool) → f (cond x a (cond y b (cond z c (cond w d e)))) ≡ cond x (f a) (cond y (f b) (cond z (f c) (cond w (f d) (f e))))
+      go true y z w = refl
+      go false true z w = refl
+      go false false true w = refl
+      go false false false true = refl
+      go false false false false = refl
+
+module _ (q : Request) (doc : List ℕ) where
+  abbrev op : ℕ
+  op = q .operation
+
+  abbrev p : List Tok
+  p = toks (q .piece)
+
+  abbrev at : ℕ
+  at = spliceAt op (q .place) p (toks doc)
+
+  abbrev cut : ℕ
+  cut = spliceCut op (q .place) p (toks doc)
+
+  pub coming-toks : toks (coming op (q .piece)) ≡ coming op p
+  coming-toks = by-map toks op (q .piece) [] (q .piece) (q .piece) []
+
+  coming-length : length (coming op (q .piece)) ≡ length (coming op p)
+  coming-length = sym (length-map (coming op (q .piece)) tokOf) ∙ ap length coming-toks
+
+  pub edited-toks : toks (edited q doc) ≡ splice at cut (coming op p) (toks doc)
+  unfolding edited
+  edited-toks = toks-splice at cut (coming op (q .piece)) doc ∙ ap (λ l. splice at cut l (toks doc)) coming-toks
+
+  pub touched-toks : touchedBy q doc ≡ touched at (length (coming op p)) (splice at cut (coming op p) (toks doc))
+  unfolding touchedBy
+  touched-toks = ap₂ (touched at) coming-length edited-toks
+
+-- ---- no fault
+
+none-of : (a r : Answer) → before a r ≡ none-found → (a .0 ≡ 0) × (r ≡ none-found)
+none-of a r e = go (a .0) refl e
+  where
+    go : (n : ℕ) → a .0 ≡ n → orElse n (a .1) r ≡ none-found → (a .0 ≡ 0) × (r ≡ none-found)
+    go zero f e = (f, e)
+    go (suc n) f e = let z : suc n ≡ 0 = ap (λ (x : Answer). x .0) e in absurd (omega arith)
+
+module _ (fault : ℕ → List Tok → List Tok → ℕ) (given : ℕ → ℕ → List Tok → ℕ) (J : ℕ → Bool) where
+  first-none : (i : ℕ) (d : List Tok) → first fault given J i d .0 ≡ 0 → first fault given J i d ≡ none-found
+  first-none i [] e = refl
+  first-none i (x ∷ d) e = go (cond (J i) (faultAt fault (x ∷ d)) 0) (first-none (suc i) d) e
+    where
+      go : (n : ℕ) → (first fault given J (suc i) d .0 ≡ 0 → first fault given J (suc i) d ≡ none-found)
+          → orElse n (given (faultAt fault (x ∷ d)) i (x ∷ d)) (first fault given J (suc i) d) .0 ≡ 0
+          → orElse n (given (faultAt fault (x ∷ d)) i (x ∷ d)) (first fault given J (suc i) d) ≡ none-found
+      go zero rest e = rest e
+      go (suc n) rest e = absurd (omega arith)
+
+-- ---- the theorems
+
+-- the four tests before the judgement
+pub record Asked (room : ℕ) (q : Request) (doc : List ℕ) : Type 0 where
+  pub operation : between 1 5 (q .operation) ≡ true
+  pub piece : goodPiece (q .operation) (toks (q .piece)) ≡ true
+  pub place : goodPlace (q .operation) (q .place) (toks (q .piece)) (toks doc) ≡ true
+  pub size : fits room (edited q doc) ≡ true
+
+pub form-iff : (room : ℕ) (q : Request) (doc : List ℕ) → (formFault room q doc ≡ 0) ↔ Asked room q doc
+unfolding formFault
+form-iff room q doc = (
+  go (between 1 5 (q .operation)) (goodPiece (q .operation) (toks (q .piece))) (goodPlace (q .operation) (q .place) (toks (q .piece)) (toks doc)) (fits room (edited q doc)) refl refl refl refl,
+  λ a. rw (a .operation, a .piece, a .place, a .size),
+)
+  where
+    go : (a b c d : Bool) → between 1 5 (q .operation) ≡ a → goodPiece (q .operation) (toks (q .piece)) ≡ b
+        → goodPlace (q .operation) (q .place) (toks (q .piece)) (toks doc) ≡ c → fits room (edited q doc) ≡ d
+        → _≡_ {A = ℕ} (cond a (cond b (cond c (cond d 0 5) 6) 4) 6) 0 → Asked room q doc
+    go true true true true f g h i k = record { operation = f; piece = g; place = h; size = i }
+    go true true true false f g h i k = absurd (omega arith)
+    go true true false d f g h i k = absurd (omega arith)
+    go true false c d f g h i k = absurd (omega arith)
+    go false b c d f g h i k = absurd (omega arith)
+
+answered-done : (n : ℕ) (a : Answer) (l new : List ℕ) → answered n a l ≡ done new → (n ≡ 0) × (a .0 ≡ 0) × (l ≡ new)
+answered-done (suc n) a l new e = let z : _≡_ {A = ℕ} 0 1 = cc in absurd (omega arith)
+answered-done zero a l new e = go (eqb (a .0) 0) refl e
+  where
+    go : (b : Bool) → eqb (a .0) 0 ≡ b → cond b (done l) (refused (a .0) (a .1)) ≡ done new → (_≡_ {A = ℕ} 0 0) × (a .0 ≡ 0) × (l ≡ new)
+    go true f k = (refl, eqb-true (a .0) 0 f, cc)
+    go false f k = let z : _≡_ {A = ℕ} 0 1 = cc in absurd (omega arith)
+
+done-answered : (n : ℕ) (a : Answer) (l : List ℕ) → n ≡ 0 → a .0 ≡ 0 → answered n a l ≡ done l
+done-answered n a l p q = rw (p, q)
+
+module _ (R : Rules) (room : ℕ) (q : Request) (doc : List ℕ) (e : isElement (toks doc) ≡ true) where
+  module _ (a : Asked room q doc) where
+    permitted : Allowed (toks doc) (at q doc) (cut q doc) (coming (q .operation) (p q doc))
+    permitted = allowed-by (toks doc) (toks (q .piece)) e (q .operation) (q .place) (a .operation) (a .piece) (a .place)
+
+    -- the edited document is one element
+    pub edited-element : isElement (toks (edited q doc)) ≡ true
+    edited-element = ap isElement (edited-toks q doc) ∙ five-keep (toks doc) e permitted
+
+    -- Of a valid document: what is judged at the touched elements is the judgement of the whole edited document.
+    pub judged-whole : judge R whole (toks doc) ≡ none-found → judge R (touchedBy q doc) (toks (edited q doc)) ≡ judge R whole (toks (edited q doc))
+    unfolding judge
+    judged-whole v =
+        let d : List Tok = toks doc in
+        let f = none-of (rootFault R d) (before (first (elementFault R) startPlace whole 0 d) (keyFault R d)) v .1 in
+        let g = none-of (first (elementFault R) startPlace whole 0 d) (keyFault R d) f .0 in
+        let h = first-none (elementFault R) startPlace whole 0 d g in
+        let l = five-local (toks doc) e (elementFault R) startPlace h permitted in
+        let m : first (elementFault R) startPlace (touchedBy q doc) 0 (toks (edited q doc)) ≡ first (elementFault R) startPlace whole 0 (toks (edited q doc)) =
+        ap₂ (λ t x. first (elementFault R) startPlace t 0 x) (touched-toks q doc) (edited-toks q doc) ∙ sym l ∙ ap (first (elementFault R) startPlace whole 0) (sym (edited-toks q doc)) in
+        ap (λ x. before (rootFault R (toks (edited q doc))) (before x (keyFault R (toks (edited q doc))))) m
+
+  -- Of a valid document: an edit is done exactly if its form, place and size are right and the edited document is valid; and
+  -- then that document is what it leaves.
+  pub done-iff : judge R whole (toks doc) ≡ none-found
+      → (new : List ℕ) → (editing R room q doc ≡ done new) ↔ ((formFault room q doc ≡ 0) × (judge R whole (toks (edited q doc)) .0 ≡ 0) × (edited q doc ≡ new))
+  unfolding editing
+  done-iff v new = (to, of)
+    where
+      to : answered (formFault room q doc) (judge R (touchedBy q doc) (toks (edited q doc))) (edited q doc) ≡ done new
+          → (formFault room q doc ≡ 0) × (judge R whole (toks (edited q doc)) .0 ≡ 0) × (edited q doc ≡ new)
+      to k =
+          let (f, n, s) = answered-done (formFault room q doc) (judge R (touchedBy q doc) (toks (edited q doc))) (edited q doc) new k in
+          (f, ap (λ (x : Answer). x .0) (sym (judged-whole (form-iff room q doc .0 f) v)) ∙ n, s)
+
+      of : (formFault room q doc ≡ 0) × (judge R whole (toks (edited q doc)) .0 ≡ 0) × (edited q doc ≡ new)
+          → answered (formFault room q doc) (judge R (touchedBy q doc) (toks (edited q doc))) (edited q doc) ≡ done new
+      of (f, n, s) =
+          done-answered (formFault room q doc) (judge R (touchedBy q doc) (toks (edited q doc))) (edited q doc) f
+          (ap (λ (x : Answer). x .0) (judged-whole (form-iff room q doc .0 f) v) ∙ n)
+          ∙ ap done s
+
+  -- in form, it makes a document with shape
+  pub asked-shape : Asked room q doc → shapeOf (edited q doc) (length (edited q doc)) ≡ true
+  unfolding shapeOf
+  asked-shape a =
+      let new : List ℕ = edited q doc in
+      let one : isElement (toks new) ≡ true = edited-element a in
+      let (size, depth) = and-parts (leb (length new) mostTokens) (shallow (toks new)) (and-parts (leb (length new) mostTokens && shallow (toks new)) (leb (length new) room) (a .size) .0) in
+      let two : 2 ≤ length new = let h = element-parts (toks new) one .1 in omega (arith, length-map new tokOf) in
+      rw (le-leb 2 (length new) two, size, le-leb (length new) (length new) (omega arith), take-length new, one, depth)
