@@ -1,0 +1,111 @@
+/* How much stack each call takes: it runs in a thread on a stack of our own that holds a pattern, and the lowest place that lost the
+ * pattern tells. Prints a line for each call: its name and the bytes. The inputs reach the deepest frames: a model nested as deep as 255
+ * symbols allow, a document of 8,192 tokens and 64 deep, an edit that is done at its end. POSIX threads. */
+#define _GNU_SOURCE
+#include "shrikemuff.h"
+
+#include <pthread.h>
+#include <stdio.h>
+#include <stdlib.h>
+#include <string.h>
+#include <sys/mman.h>
+
+#define STACK (4u << 20)
+#define PATTERN 0xa5
+
+static uint8_t schema[1024], file[3 * 8192];
+static uint64_t table[SHRIKE_TABLE_WORDS];
+static uint32_t doc[SHRIKE_MOST_TOKENS], used;
+
+static void *nothing(void *answer) {
+    return answer;
+}
+
+static void *reads(void *answer) {
+    static uint32_t tokens[SHRIKE_MOST_TOKENS];
+    shrike_count r = shrike_read(file, sizeof file, tokens, SHRIKE_MOST_TOKENS);
+    *(uint32_t *)answer = r.number;
+    return answer;
+}
+
+static void *writes(void *answer) {
+    static uint8_t bytes[3 * SHRIKE_MOST_TOKENS];
+    shrike_count r = shrike_write(doc, used, bytes, sizeof bytes);
+    *(uint32_t *)answer = r.number;
+    return answer;
+}
+
+static size_t schema_length;
+
+static void *translates(void *answer) {
+    *(uint32_t *)answer = shrike_translate(schema, schema_length, table, SHRIKE_TABLE_WORDS);
+    return answer;
+}
+
+static void *checks(void *answer) {
+    shrike_verdict r = shrike_check(table, SHRIKE_TABLE_WORDS, doc, SHRIKE_MOST_TOKENS, used);
+    *(uint32_t *)answer = r.number;
+    return answer;
+}
+
+static void *edits(void *answer) {
+    static const uint32_t piece[] = {1 * 8 + 1, 2};
+    shrike_answer r = shrike_edit(table, SHRIKE_TABLE_WORDS, doc, SHRIKE_MOST_TOKENS, used, 1, used - 1, piece, 2);
+    *(uint32_t *)answer = r.number;
+    return answer;
+}
+
+/* The bytes of stack that the thread takes. */
+static size_t taken(void *(*work)(void *), uint32_t *answer) {
+    uint8_t *stack = mmap(NULL, STACK, PROT_READ | PROT_WRITE, MAP_PRIVATE | MAP_ANONYMOUS, -1, 0);
+    pthread_attr_t how;
+    pthread_t thread;
+    size_t low = 0;
+    if (stack == MAP_FAILED) abort();
+    memset(stack, PATTERN, STACK);
+    if (pthread_attr_init(&how) != 0 || pthread_attr_setstack(&how, stack, STACK) != 0) abort();
+    if (pthread_create(&thread, &how, work, answer) != 0 || pthread_join(thread, NULL) != 0) abort();
+    pthread_attr_destroy(&how);
+    while (low < STACK && stack[low] == PATTERN) low++;
+    munmap(stack, STACK);
+    return STACK - low;
+}
+
+static size_t thread_alone;
+static int wrong;
+
+static void told(const char *name, void *(*work)(void *)) {
+    uint32_t answer = 99;
+    size_t bytes = taken(work, &answer);
+    printf("%s %zu\n", name, bytes < thread_alone ? 0 : bytes - thread_alone);
+    if (answer == 0) return;
+    fprintf(stderr, "tests/stack: %s answers %u and should be done\n", name, (unsigned)answer);
+    wrong = 1;
+}
+
+int main(void) {
+    uint32_t i, answer = 0;
+    uint8_t *s = schema;
+    /* two elements: 0 is (0|1)* in 251 brackets that say "optional", with 255 symbols in all; 1 is EMPTY */
+    *s++ = 2, *s++ = 0;
+    *s++ = 2, *s++ = 255, *s++ = 1;
+    for (i = 0; i < 251; i++) *s++ = SHRIKE_OPTIONAL;
+    *s++ = SHRIKE_ZERO_OR_MORE, *s++ = SHRIKE_CHOICE, *s++ = SHRIKE_NAMED, *s++ = SHRIKE_NAMED + 1;
+    *s++ = 0;
+    *s++ = 0, *s++ = 0;
+    schema_length = (size_t)(s - schema);
+    /* 64 deep at the end; 8,190 tokens, so that an insert fills the buffer */
+    for (used = 0; used < 1; used++) doc[used] = 1;
+    while (used < 8190 - 127) doc[used++] = 1 * 8 + 1, doc[used++] = 2;
+    for (i = 0; i < 63; i++) doc[used++] = 1;
+    for (i = 0; i < 63; i++) doc[used++] = 2;
+    doc[used++] = 2;
+    for (i = 0; i < sizeof file; i++) file[i] = i % 3 == 2 ? 1 : 128;
+    thread_alone = taken(nothing, &answer);
+    told("shrike_read", reads);
+    told("shrike_write", writes);
+    told("shrike_translate", translates);
+    told("shrike_check", checks);
+    told("shrike_edit", edits);
+    return wrong;
+}
