@@ -1,8 +1,8 @@
 /* shrikemuff.h: small XML documents, held as tokens, kept to their schema.
  *
  * Five calls: a document file is read into tokens and written from them; a schema file is translated to a table; a document is checked
- * by a table; a document is edited, and stays as it was unless the edited document keeps to the schema. Link libshrikemuff.a. ISO C99,
- * and C++; Linux on x86-64.
+ * by a table; a document is edited, and stays as it was unless the edited document keeps to the schema. A sixth tells the library's version.
+ * Link libshrikemuff.a. ISO C99, and C++; Linux on x86-64.
  *
  * What each call answers, and what it leaves in every place of the memory lent to it, is proved of the source that the library is compiled
  * from. The compiler that makes machine code of it is not proved.
@@ -25,7 +25,7 @@
  * Stack of a call, compiled for x86-64, in bytes:
  *
  *     shrike_read                     under 33,000
- *     shrike_write                    under 100
+ *     shrike_write, shrike_version    under 100
  *     shrike_translate                under 104,000
  *     shrike_check                    under 100,000
  *     shrike_edit                     under 133,000
@@ -36,12 +36,23 @@
  * The library calls memcpy and memset and nothing else. It does no input or output, and each call ends.
  *
  *
+ * VERSIONS
+ *
+ * SHRIKE_VERSION is this header's version, shrike_version() is the library's. Another major number: something that was there is another.
+ * Another minor number: something was added. So a library serves a program that is compiled with a header of the same major number and
+ * no higher minor one: `shrike_serves(shrike_version())` says whether it does. A host that asks this first, and takes any answer that it
+ * does not know as a refusal, need not change for a newer library.
+ *
+ *
  * NUMBERS IN FILES
  *
  * A file is a run of numbers from 0 to 2,097,151, each in one to three bytes. A byte carries seven bits, the lowest group first; the top
  * bit is set in all bytes of a number but the last. Only the shortest form counts. 127 is one byte, 128 is the bytes 128 1, and 2,097,151
  * is 255 255 127. A number is broken if the file ends inside it, if it calls for a fourth byte, or if it has several bytes and the last
  * is 0.
+ *
+ * shrike_write writes any such numbers, and shrike_read reads them: those of a schema file too, as if they were tokens, up to 8,192 in a
+ * call. A file of more is written in parts, each behind the last.
  *
  *
  * TOKENS
@@ -55,11 +66,24 @@
  *     4  attribute; the number is its name
  *     5  value of the attribute before it
  *
+ * SHRIKE_START_TOKEN(number) and the like make a token of a number within the limit; SHRIKE_SORT(token) and SHRIKE_NUMBER(token) take one
+ * apart.
+ *
  * A document is one element. It has shape if it has 2 to 8,192 tokens, all as above; token 0 is a start, and its end is the last token;
  * starts and ends balance, at most 64 deep with the root at 1; attributes stand directly after their start, numbers strictly rising, each
  * followed by one or more values; and values stand nowhere else. A document's file is its tokens as numbers and nothing else.
  *
  * A document stands in the first `used` places of a buffer of `room` places. What the places behind it hold is of no account.
+ *
+ *
+ * TABLES
+ *
+ * A table is a schema as the check and the edits use it; a host need not look into it. Word 0 is the number of elements E, word 1 the root.
+ * From SHRIKE_BLOCKS_AT on stands a block of SHRIKE_BLOCK_WORDS words for each of 48 elements. It holds, each from its SHRIKE_.._AT on:
+ * the kind; the sets of attributes that are allowed, required, ID, IDREF and IDREFS, bit k for attribute k; the number n of names that
+ * occur in the model; 1 if no child at all matches, else 0; the sets of occurrences that can be first, and last, bit k for occurrence k,
+ * from 0 in reading order; 64 words for the names of the occurrences; 64 words for the sets of those that can come directly after each.
+ * Words of no use, and the blocks from E on, are 0. For kinds 0 and 1 everything from n on is 0.
  *
  *
  * ANSWERS
@@ -80,7 +104,7 @@
  *     12  reference to no ID                                                  *     *
  *     13  table: not of 6,626 words, or not proper                   *        *     *
  *
- * A call gives the first that applies, in the order that stands with it.
+ * A call gives the first that applies, in the order that stands with it. shrike_words(number) says an answer in words.
  *
  * A place is the index of a token, from 0. For 7, 8 and 9 it is the start of the element that has the fault, for 10 it is 0, for 11 the
  * later of the two values, for 12 the value that refers to nothing. For other numbers it is 0.
@@ -95,11 +119,93 @@
 extern "C" {
 #endif
 
-/* Lengths. */
+/* This header's version. */
+#define SHRIKE_VERSION_MAJOR 0
+#define SHRIKE_VERSION_MINOR 1
+#define SHRIKE_VERSION_PATCH 0
+#define SHRIKE_VERSION (SHRIKE_VERSION_MAJOR * 1000000 + SHRIKE_VERSION_MINOR * 1000 + SHRIKE_VERSION_PATCH)
+
+/* Limits: the most that is taken. */
 enum {
-    SHRIKE_TABLE_WORDS = 6626, /* a table, in words of 64 bits (53,008 bytes) */
-    SHRIKE_MOST_TOKENS = 8192, /* a document; a piece */
-    SHRIKE_MOST_BYTES = 24576  /* a document's file: three bytes for each token */
+    SHRIKE_MOST_TOKENS = 8192,    /* tokens of a document, or of a piece */
+    SHRIKE_MOST_BYTES = 24576,    /* bytes of a document's file: three for each token */
+    SHRIKE_MOST_DEEP = 64,        /* depth of a document, or of a piece, the root at 1 */
+    SHRIKE_MOST_NUMBER = 65535,   /* number of a token */
+    SHRIKE_MOST_VALUE = 2097151,  /* number in a file */
+    SHRIKE_MOST_ELEMENTS = 48,    /* elements of a schema */
+    SHRIKE_MOST_SYMBOLS = 255,    /* symbols of a model */
+    SHRIKE_MOST_NAMES = 64,       /* names that occur in a model */
+    SHRIKE_MOST_ATTRIBUTES = 64   /* attributes of an element; their numbers are below it */
+};
+
+/* Sorts of tokens. */
+enum {
+    SHRIKE_START = 1,
+    SHRIKE_END = 2,
+    SHRIKE_TEXT = 3,
+    SHRIKE_ATTRIBUTE = 4,
+    SHRIKE_VALUE = 5,
+    SHRIKE_SORTS = 8 /* a token is number * SHRIKE_SORTS + sort */
+};
+
+/* Tokens, and their parts. */
+#define SHRIKE_TOKEN(sort, number) ((uint32_t)(number) * SHRIKE_SORTS + (uint32_t)(sort))
+#define SHRIKE_START_TOKEN(number) SHRIKE_TOKEN(SHRIKE_START, number)
+#define SHRIKE_END_TOKEN SHRIKE_TOKEN(SHRIKE_END, 0)
+#define SHRIKE_TEXT_TOKEN(number) SHRIKE_TOKEN(SHRIKE_TEXT, number)
+#define SHRIKE_ATTRIBUTE_TOKEN(number) SHRIKE_TOKEN(SHRIKE_ATTRIBUTE, number)
+#define SHRIKE_VALUE_TOKEN(number) SHRIKE_TOKEN(SHRIKE_VALUE, number)
+#define SHRIKE_SORT(token) ((uint32_t)(token) % SHRIKE_SORTS)
+#define SHRIKE_NUMBER(token) ((uint32_t)(token) / SHRIKE_SORTS)
+
+/* Kinds of elements. */
+enum {
+    SHRIKE_EMPTY = 0,
+    SHRIKE_TEXT_ONLY = 1,
+    SHRIKE_MODEL = 2
+};
+
+/* Symbols of a model. The element e is SHRIKE_NAMED + e. */
+enum {
+    SHRIKE_SEQUENCE = 0,
+    SHRIKE_CHOICE = 1,
+    SHRIKE_OPTIONAL = 2,
+    SHRIKE_ZERO_OR_MORE = 3,
+    SHRIKE_ONE_OR_MORE = 4,
+    SHRIKE_NAMED = 5
+};
+
+/* Kinds of attributes. */
+enum {
+    SHRIKE_CDATA = 0,
+    SHRIKE_ID = 1,
+    SHRIKE_IDREF = 2,
+    SHRIKE_IDREFS = 3
+};
+
+/* Statuses of attributes. */
+enum {
+    SHRIKE_REQUIRED = 0,
+    SHRIKE_IMPLIED = 1
+};
+
+/* The table: its words (of 64 bits: 53,008 bytes), those of a block, where the first block begins, and the places in a block. */
+enum {
+    SHRIKE_TABLE_WORDS = 6626,
+    SHRIKE_BLOCK_WORDS = 138,
+    SHRIKE_BLOCKS_AT = 2,
+    SHRIKE_KIND_AT = 0,
+    SHRIKE_ALLOWED_AT = 1,
+    SHRIKE_REQUIRED_AT = 2,
+    SHRIKE_ID_AT = 3,
+    SHRIKE_IDREF_AT = 4,
+    SHRIKE_IDREFS_AT = 5,
+    SHRIKE_COUNT_AT = 6,
+    SHRIKE_NO_CHILD_AT = 7,
+    SHRIKE_FIRST_AT = 8,
+    SHRIKE_LAST_AT = 9,
+    SHRIKE_NAMES_AT = 10,
+    SHRIKE_FOLLOW_AT = 74
 };
 
 /* Answer numbers. */
@@ -129,6 +235,32 @@ enum {
     SHRIKE_DROP = 5
 };
 
+/* An answer number in words. Never NULL. */
+static inline const char *shrike_words(uint32_t number) {
+    switch (number) {
+    case SHRIKE_DONE: return "valid, or done";
+    case SHRIKE_BROKEN: return "broken number";
+    case SHRIKE_SCHEMA: return "schema value, form or limit";
+    case SHRIKE_AMBIGUOUS: return "ambiguous model";
+    case SHRIKE_SHAPE: return "no shape, or bad piece";
+    case SHRIKE_ROOM: return "too large, or no room";
+    case SHRIKE_PLACE: return "operation or place";
+    case SHRIKE_NAME: return "name";
+    case SHRIKE_ATTRIBUTES: return "attributes";
+    case SHRIKE_CONTENT: return "content";
+    case SHRIKE_ROOT: return "root";
+    case SHRIKE_ID_TWICE: return "ID twice";
+    case SHRIKE_NO_ID: return "reference to none";
+    case SHRIKE_TABLE: return "table";
+    default: return "unknown answer";
+    }
+}
+
+/* Whether a library of a version serves a program that is compiled with this header: 1 or 0. */
+static inline int shrike_serves(uint32_t version) {
+    return version / 1000000 == SHRIKE_VERSION / 1000000 && version / 1000 >= SHRIKE_VERSION / 1000;
+}
+
 /* The answer of shrike_read and shrike_write. count: the tokens read, or the bytes written; 0 when refused. */
 typedef struct {
     uint32_t number, count;
@@ -147,13 +279,17 @@ typedef struct {
     int32_t change;
 } shrike_answer;
 
+/* The library's version: major * 1,000,000 + minor * 1,000 + patch. */
+uint32_t shrike_version(void);
+
 /* Reads the document file `file` into the first places of `tokens`; the places behind keep their contents. The tree is not judged, and an
  * empty file is zero tokens.
  *
  * From the front, the first of these decides: a broken number (1); a number for which there is no place, in `tokens` or past 8,192 (5). */
 shrike_count shrike_read(const uint8_t *file, size_t file_len, uint32_t *tokens, size_t room);
 
-/* Writes the `n` tokens into the first bytes of `file`; the bytes behind keep their contents. The tree is not judged.
+/* Writes the `n` tokens into the first bytes of `file`; the bytes behind keep their contents. The tree is not judged: any numbers are
+ * written, those of a schema file too.
  *
  * Order: over 8,192 tokens (5); a token over 2,097,151 (4); too little room (5). SHRIKE_MOST_BYTES bytes are always enough. */
 shrike_count shrike_write(const uint32_t *tokens, size_t n, uint8_t *file, size_t room);
@@ -161,7 +297,7 @@ shrike_count shrike_write(const uint32_t *tokens, size_t n, uint8_t *file, size_
 /* Translates the schema file `file` to a table, and answers a number. `words` is SHRIKE_TABLE_WORDS.
  *
  * The numbers of a schema file: the number of elements E, 1 to 48; the root, below E; then for each element 0 to E-1:
- *   - its kind: 0 empty, 1 text only, 2 a content model;
+ *   - its kind: 0 empty (SHRIKE_EMPTY, and so on), 1 text only, 2 a content model;
  *   - for kind 2 the count of symbols, 1 to 255, and the symbols: 0 sequence and 1 choice, each before two expressions; 2 optional, 3 zero
  *     or more and 4 one or more, each before one expression; 5+e the element e, below 5+E. They are exactly one expression, in which at
  *     most 64 names occur;

@@ -87,7 +87,7 @@ def main():
                 if content is not None:
                     with open(os.path.join(folder, name), 'wb') as f:
                         f.write(content)
-            ran = subprocess.run([os.path.join(HERE, 'program'), 'run_edits'], cwd=folder, stdout=subprocess.PIPE)
+            ran = subprocess.run([os.path.join(HERE, '..', 'tools', 'program'), 'run_edits'], cwd=folder, stdout=subprocess.PIPE)
             got = ran.stdout.decode()
             if ran.returncode != 0 or got != printed:
                 raise SystemExit(f'tests/edits.py: {shows}: status {ran.returncode}\nexpected\n{printed[:500]}printed\n{got[:500]}')

@@ -1,30 +1,12 @@
 /* A host in C: loads a schema, a document and edits from the files of a folder, and says in words what comes of each.
  *
- *     cc -Iinclude -o shade examples/c/shade.c libshrikemuff.a
+ *     cc -Iinclude -o shade examples/c/shade.c target/staticlib/libshrikemuff.a
  *     ./shade samples/small-shade
  *
- * Ends with 0 once every edit was tried, and with 1 if a file, the schema or the document is refused. */
+ * Ends with 0 once every edit was tried, and with 1 if the library, a file, the schema or the document is refused. */
 #include "shrikemuff.h"
 
 #include <stdio.h>
-
-/* The answers in words, by number. */
-static const char *const words[] = {
-    "done",
-    "broken number",
-    "schema value, form or limit",
-    "ambiguous model",
-    "no shape, or bad piece",
-    "too large, or no room",
-    "operation or place",
-    "name",
-    "attributes",
-    "content",
-    "root",
-    "ID twice",
-    "reference to none",
-    "table",
-};
 
 static const char *const operations[] = {"no operation", "insert", "remove", "replace", "set", "drop"};
 
@@ -55,7 +37,7 @@ static int load(const char *folder, const char *name, struct bytes *b) {
 
 /* Says that something is refused. */
 static void refused(const char *what, uint32_t number, uint32_t place) {
-    printf("%s: refused, %s", what, words[number]);
+    printf("%s: refused, %s", what, shrike_words(number));
     if (number >= SHRIKE_NAME && number <= SHRIKE_NO_ID) printf(" at %u", (unsigned)place);
 }
 
@@ -92,6 +74,11 @@ int main(int argc, char **argv) {
     if (argc != 2) {
         fprintf(stderr, "usage: shade FOLDER\n");
         return 2;
+    }
+    uint32_t version = shrike_version();
+    if (!shrike_serves(version)) {
+        printf("library: refused, version %u\n", (unsigned)version);
+        return 1;
     }
     if (!load(argv[1], "schema.dat", &schema) || !load(argv[1], "doc.dat", &document) || !load(argv[1], "edits.dat", &edits)) return 1;
 

@@ -1,12 +1,12 @@
 //! Runs a case: lends its memory, calls, and compares all with the outcome that the paper says.
 
-use crate::library;
 use crate::memory::{bytes_of, Lender, Side};
 use second::case::{Case, Memory, Outcome, Said};
 use second::paper::edits::Answer;
 use second::paper::judgement::Verdict;
 use second::paper::program::Files;
 use second::saved;
+use shrikemuff::raw as library;
 use std::fs;
 use std::path::{Path, PathBuf};
 use std::process::Command;

@@ -4,7 +4,6 @@
 
 mod calls;
 mod counts;
-mod library;
 mod memory;
 mod run;
 

@@ -1,15 +1,12 @@
 //! The paper's small shade, its four models and its six lines: by this program, and by the calls of the archive.
 
-#[path = "../src/library.rs"]
-#[allow(dead_code)]
-mod library;
-
 use second::paper::edits::{edit, Answer, Edit};
 use second::paper::expression::Expression;
 use second::paper::grammar::Grammar;
 use second::paper::judgement::{check, Verdict};
 use second::paper::program::{printed, Files};
 use second::paper::{numbers, occurrences, schema_file, table};
+use shrikemuff::raw as library;
 
 const SCHEMA: [u32; 29] = [4, 0, 2, 5, 0, 4, 6, 3, 8, 1, 0, 0, 0, 2, 2, 3, 7, 1, 1, 1, 0, 1, 0, 0, 1, 2, 2, 0, 99];
 const DOCUMENT: [u32; 15] = [1, 4, 61, 9, 12, 165, 17, 243, 2, 2, 25, 20, 165, 2, 2];

@@ -1,11 +1,6 @@
-/* Calls every function of the header, with values that a swapped field, a swapped argument or a wrong width would show. Each answer is
- * the paper's. Ends with 1 if one differs. C99 and C++; the system is POSIX, for address space that is lent and must not be touched. */
-#define _DEFAULT_SOURCE
-#include "shrikemuff.h"
-
-#include <stdio.h>
-#include <string.h>
-#include <sys/mman.h>
+/* Calls every function of the header, with values that a swapped field, a swapped argument or a wrong width would show. The numbers are
+ * written out: each answer is the paper's. Ends with 1 if one differs. */
+#include "compare.h"
 
 /* ---- the types, as the header gives them */
 
@@ -30,47 +25,6 @@ static shrike_verdict (*const check)(const uint64_t *, size_t, const uint32_t *,
 static shrike_answer (*const edit)(const uint64_t *, size_t, uint32_t *, size_t, uint64_t, uint32_t, uint64_t, const uint32_t *,
                                    size_t) = shrike_edit;
 
-/* ---- what is compared */
-
-static unsigned compared, wrong;
-
-static void same(int line, const char *what, uint64_t got, uint64_t due) {
-    compared++;
-    if (got == due) return;
-    wrong++;
-    printf("line %d: %s is %llu and should be %llu\n", line, what, (unsigned long long)got, (unsigned long long)due);
-}
-
-static void bytes_same(int line, const void *got, const void *due, size_t n) {
-    compared++;
-    if (memcmp(got, due, n) == 0) return;
-    wrong++;
-    printf("line %d: memory is not as it should be\n", line);
-}
-
-static void counted(int line, shrike_count r, uint32_t number, uint32_t count) {
-    same(line, "number", r.number, number);
-    same(line, "count", r.count, count);
-}
-
-static void judged(int line, shrike_verdict r, uint32_t number, uint32_t place) {
-    same(line, "number", r.number, number);
-    same(line, "place", r.place, place);
-}
-
-static void answered(int line, shrike_answer r, uint32_t number, uint32_t place, uint64_t used, int32_t change) {
-    same(line, "number", r.number, number);
-    same(line, "place", r.place, place);
-    same(line, "used", r.used, used);
-    same(line, "change", (uint64_t)(int64_t)r.change, (uint64_t)(int64_t)change);
-}
-
-#define COUNTED(call, number, count) counted(__LINE__, call, number, count)
-#define JUDGED(call, number, place) judged(__LINE__, call, number, place)
-#define ANSWERED(call, number, place, used, change) answered(__LINE__, call, number, place, used, change)
-#define SAME(what, got, due) same(__LINE__, what, got, due)
-#define BYTES(got, due, n) bytes_same(__LINE__, got, due, n)
-
 /* ---- the small shade */
 
 #define TABLE 6626
@@ -89,10 +43,13 @@ static void fill(uint32_t *doc, const uint32_t *tokens, size_t n) {
     for (size_t i = 0; i < PLACES; i++) doc[i] = i < n ? tokens[i] : FILLED;
 }
 
+/* Linux's numbers. */
+enum { CLOSED = 0, READ_WRITE = 3, PRIVATE_ANONYMOUS_UNRESERVED = 0x4022 };
+
 /* n bytes of address space of which the first page alone may be touched, or none. */
 static void *reserve(size_t n, int page) {
-    void *p = mmap(NULL, n, PROT_NONE, MAP_PRIVATE | MAP_ANONYMOUS | MAP_NORESERVE, -1, 0);
-    if (p == MAP_FAILED || (page && mprotect(p, 4096, PROT_READ | PROT_WRITE) != 0)) {
+    void *p = mmap(NULL, n, CLOSED, PRIVATE_ANONYMOUS_UNRESERVED, -1, 0);
+    if (p == (void *)-1 || (page && mprotect(p, 4096, READ_WRITE) != 0)) {
         perror("address space");
         return NULL;
     }
@@ -239,6 +196,5 @@ int main(void) {
     checks();
     edits();
     if (!lengths()) return 1;
-    printf("%u compared, %u wrong\n", compared, wrong);
-    return wrong != 0;
+    return told();
 }

@@ -5,165 +5,77 @@
 //! less than 133,000 bytes of the stack.
 //!
 //! ```
-//! use shrikemuff::{read, Edit, Refusal, Table, MOST_TOKENS};
+//! use shrikemuff::numbers::{MOST_TOKENS, TEXT_ONLY};
+//! use shrikemuff::{read, token, write, Edit, Refusal, Table};
 //!
-//! let table = Table::translate(&[1, 0, 1, 0]).unwrap(); // one element, 0, with text
+//! let mut schema = [0; 4];
+//! write(&[1, 0, TEXT_ONLY, 0], &mut schema).unwrap(); // one element, 0, with text
+//! let table = Table::translate(&schema).unwrap();
 //! let mut doc = vec![0; MOST_TOKENS];
 //! let used = read(&[1, 11, 2], &mut doc).unwrap();
+//! assert_eq!(doc[..used], [token::start(0), token::text(1), token::end()]);
 //! assert_eq!(table.check(&doc, used), Ok(()));
 //! let fault = table.edit(&mut doc, used, Edit::remove(1)).unwrap_err();
 //! assert_eq!((fault.refusal, fault.place), (Refusal::Content, 0));
-//! assert_eq!(table.edit(&mut doc, used, Edit::replace(1, &[19])).map(|done| done.used), Ok(3));
+//! let done = table.edit(&mut doc, used, Edit::replace(1, &[token::text(2)])).unwrap();
+//! assert_eq!((done.used, done.change), (3, 0));
 //! ```
+//!
+//! # Another library than the one that this was written for
+//!
+//! Each function first asks the library's version, and calls nothing of a library that does not serve this binding: the refusal is
+//! [`Refusal::Version`]. [`library_version`] and [`serves`] ask the same beforehand. A newer library that does serve it may give an answer
+//! that this binding does not know: the refusal is then [`Refusal::Unknown`], with the number.
 #![deny(missing_docs)]
 
 use std::fmt;
 
+mod refusal;
+
+#[allow(missing_docs)]
+pub mod numbers;
 #[allow(missing_docs)]
 pub mod raw;
+pub mod token;
+
+pub use numbers::{MOST_BYTES, MOST_TOKENS, TABLE_WORDS, VERSION};
+pub use refusal::{Fault, Refusal};
 
 #[cfg(not(target_pointer_width = "64"))]
 compile_error!("lengths have 64 bits");
 
-/// The words of a table.
-pub const TABLE_WORDS: usize = 6626;
-
-/// The most tokens of a document, or of a piece.
-pub const MOST_TOKENS: usize = 8192;
-
-/// The most bytes of a document's file: three for each token.
-pub const MOST_BYTES: usize = 3 * MOST_TOKENS;
-
-/// Why a call is refused: the answer numbers 1 to 13.
-#[derive(Clone, Copy, Debug, PartialEq, Eq, Hash)]
-#[repr(u32)]
-pub enum Refusal {
-    /// broken number
-    Broken = 1,
-    /// schema value, form or limit
-    Schema = 2,
-    /// ambiguous model
-    Ambiguous = 3,
-    /// no shape, or bad piece
-    Shape = 4,
-    /// too large, or no room
-    Room = 5,
-    /// operation or place
-    Place = 6,
-    /// name
-    Name = 7,
-    /// attributes
-    Attributes = 8,
-    /// content
-    Content = 9,
-    /// root
-    Root = 10,
-    /// ID twice
-    IdTwice = 11,
-    /// reference to none
-    NoId = 12,
-    /// table
-    Table = 13,
+/// The library's version: major × 1,000,000 + minor × 1,000 + patch, as [`VERSION`] is this binding's.
+pub fn library_version() -> u32 {
+    // SAFETY: it takes nothing, and is there in every version.
+    unsafe { raw::shrike_version() }
 }
 
-impl Refusal {
-    /// Every refusal, by its number.
-    pub const ALL: [Refusal; 13] = [
-        Refusal::Broken,
-        Refusal::Schema,
-        Refusal::Ambiguous,
-        Refusal::Shape,
-        Refusal::Room,
-        Refusal::Place,
-        Refusal::Name,
-        Refusal::Attributes,
-        Refusal::Content,
-        Refusal::Root,
-        Refusal::IdTwice,
-        Refusal::NoId,
-        Refusal::Table,
-    ];
-
-    /// The answer's number.
-    pub fn number(self) -> u32 {
-        self as u32
-    }
-
-    /// Whether a place goes with it.
-    pub fn has_place(self) -> bool {
-        (7..=12).contains(&self.number())
-    }
-
-    /// 0 is no refusal. No call answers a number over 13.
-    fn of(number: u32) -> Result<(), Refusal> {
-        match number {
-            0 => Ok(()),
-            _ => Err(Refusal::ALL[number as usize - 1]),
-        }
-    }
+/// Whether a library of a version serves this binding: the major number is the same, and the minor one no lower.
+pub const fn serves(version: u32) -> bool {
+    version / 1_000_000 == VERSION / 1_000_000 && version / 1_000 >= VERSION / 1_000
 }
 
-impl fmt::Display for Refusal {
-    fn fmt(&self, f: &mut fmt::Formatter<'_>) -> fmt::Result {
-        f.write_str(match self {
-            Refusal::Broken => "broken number",
-            Refusal::Schema => "schema value, form or limit",
-            Refusal::Ambiguous => "ambiguous model",
-            Refusal::Shape => "no shape, or bad piece",
-            Refusal::Room => "too large, or no room",
-            Refusal::Place => "operation or place",
-            Refusal::Name => "name",
-            Refusal::Attributes => "attributes",
-            Refusal::Content => "content",
-            Refusal::Root => "root",
-            Refusal::IdTwice => "ID twice",
-            Refusal::NoId => "reference to none",
-            Refusal::Table => "table",
-        })
-    }
-}
-
-impl std::error::Error for Refusal {}
-
-/// A refusal by a table, and where: the index of a token, 0 where the refusal has no place.
-#[derive(Clone, Copy, Debug, PartialEq, Eq, Hash)]
-pub struct Fault {
-    /// why
-    pub refusal: Refusal,
-    /// where
-    pub place: usize,
-}
-
-impl Fault {
-    fn of(number: u32, place: u32) -> Result<(), Fault> {
-        Refusal::of(number).map_err(|refusal| Fault {
-            refusal,
-            place: place as usize,
-        })
-    }
-}
-
-impl fmt::Display for Fault {
-    fn fmt(&self, f: &mut fmt::Formatter<'_>) -> fmt::Result {
-        self.refusal.fmt(f)?;
-        if self.refusal.has_place() {
-            write!(f, " at {}", self.place)?;
-        }
+fn served() -> Result<(), Refusal> {
+    let version = library_version();
+    if serves(version) {
         Ok(())
+    } else {
+        Err(Refusal::Version(version))
     }
 }
-
-impl std::error::Error for Fault {}
 
 /// Reads a document file into the first places of `tokens`: how many tokens it has. Later places keep their contents.
 pub fn read(file: &[u8], tokens: &mut [u32]) -> Result<usize, Refusal> {
+    served()?;
     // SAFETY: each slice is a pointer to as many elements as its length says, aligned; a `&mut` overlaps nothing else.
     let r = unsafe { raw::shrike_read(file.as_ptr(), file.len(), tokens.as_mut_ptr(), tokens.len()) };
     Refusal::of(r.number).map(|()| r.count as usize)
 }
 
-/// Writes every token into the first bytes of `file`: how many bytes they take. Later bytes keep their contents.
+/// Writes every token into the first bytes of `file`: how many bytes they take. Later bytes keep their contents. Any numbers are written, those
+/// of a schema file too.
 pub fn write(tokens: &[u32], file: &mut [u8]) -> Result<usize, Refusal> {
+    served()?;
     // SAFETY: as in `read`.
     let r = unsafe { raw::shrike_write(tokens.as_ptr(), tokens.len(), file.as_mut_ptr(), file.len()) };
     Refusal::of(r.number).map(|()| r.count as usize)
@@ -172,7 +84,7 @@ pub fn write(tokens: &[u32], file: &mut [u8]) -> Result<usize, Refusal> {
 /// An edit: what is done, where, and with which tokens. Any numbers may stand in it; a wrong one is refused.
 #[derive(Clone, Copy, Debug, PartialEq, Eq)]
 pub struct Edit<'a> {
-    /// 1 insert, 2 remove, 3 replace, 4 set, 5 drop
+    /// one of [`numbers::INSERT`], `REMOVE`, `REPLACE`, `SET` and `DROP`
     pub operation: u32,
     /// the index of a token
     pub place: usize,
@@ -183,32 +95,33 @@ pub struct Edit<'a> {
 impl<'a> Edit<'a> {
     /// One element or one text goes before the token at a place.
     pub fn insert(place: usize, piece: &'a [u32]) -> Edit<'a> {
-        Edit { operation: 1, place, piece }
+        Edit { operation: numbers::INSERT, place, piece }
     }
 
     /// The element or the text at a place goes.
     pub fn remove(place: usize) -> Edit<'a> {
-        Edit { operation: 2, place, piece: &[] }
+        Edit { operation: numbers::REMOVE, place, piece: &[] }
     }
 
     /// One element or one text takes the place of the one at a place.
     pub fn replace(place: usize, piece: &'a [u32]) -> Edit<'a> {
-        Edit { operation: 3, place, piece }
+        Edit { operation: numbers::REPLACE, place, piece }
     }
 
     /// An attribute and its values are added to the element at a place, or take the place of those there.
     pub fn set(place: usize, piece: &'a [u32]) -> Edit<'a> {
-        Edit { operation: 4, place, piece }
+        Edit { operation: numbers::SET, place, piece }
     }
 
     /// The attribute whose token is the piece goes from the element at a place, with its values.
     pub fn drop(place: usize, piece: &'a [u32]) -> Edit<'a> {
-        Edit { operation: 5, place, piece }
+        Edit { operation: numbers::DROP, place, piece }
     }
 }
 
 /// An edit that was done.
 #[derive(Clone, Copy, Debug, PartialEq, Eq)]
+#[non_exhaustive]
 pub struct Done {
     /// the document's new length
     pub used: usize,
@@ -225,6 +138,7 @@ pub struct Table {
 impl Table {
     /// The table of a schema file.
     pub fn translate(file: &[u8]) -> Result<Table, Refusal> {
+        served()?;
         let words = vec![0; TABLE_WORDS].into_boxed_slice();
         let mut words: Box<[u64; TABLE_WORDS]> = words.try_into().expect("the length is TABLE_WORDS");
         // SAFETY: as in `read`.
@@ -244,6 +158,7 @@ impl Table {
 
     /// Whether the first `used` tokens of `doc` are a valid document.
     pub fn check(&self, doc: &[u32], used: usize) -> Result<(), Fault> {
+        served()?;
         // SAFETY: as in `read`.
         let r = unsafe { raw::shrike_check(self.words.as_ptr(), TABLE_WORDS, doc.as_ptr(), doc.len(), used as u64) };
         Fault::of(r.number, r.place)
@@ -251,6 +166,7 @@ impl Table {
 
     /// Edits the document in the first `used` places of `doc`. A refusal leaves it as it was.
     pub fn edit(&self, doc: &mut [u32], used: usize, edit: Edit<'_>) -> Result<Done, Fault> {
+        served()?;
         // SAFETY: as in `read`.
         let r = unsafe {
             raw::shrike_edit(
@@ -265,10 +181,7 @@ impl Table {
                 edit.piece.len(),
             )
         };
-        Fault::of(r.number, r.place).map(|()| Done {
-            used: r.used as usize,
-            change: r.change,
-        })
+        Fault::of(r.number, r.place).map(|()| Done { used: r.used as usize, change: r.change })
     }
 }
 

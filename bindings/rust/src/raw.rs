@@ -27,6 +27,7 @@ pub struct Answer {
 }
 
 extern "C" {
+    pub fn shrike_version() -> u32;
     pub fn shrike_read(file: *const u8, file_len: usize, tokens: *mut u32, room: usize) -> Count;
     pub fn shrike_write(tokens: *const u32, n: usize, file: *mut u8, room: usize) -> Count;
     pub fn shrike_translate(file: *const u8, file_len: usize, table: *mut u64, words: usize) -> u32;

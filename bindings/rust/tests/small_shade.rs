@@ -1,9 +1,7 @@
-//! The paper's small shade, and what the binding adds to the calls: lengths, answers as types, words.
-use shrikemuff::{raw, read, write, Done, Edit, Fault, Refusal, Table, MOST_BYTES, MOST_TOKENS, TABLE_WORDS};
+//! The paper's small shade, and what the binding adds to the calls: lengths, answers as types.
+use shrikemuff::{raw, read, token, write, Edit, Fault, Refusal, Table, MOST_BYTES, MOST_TOKENS, TABLE_WORDS};
 
-const SCHEMA: [u8; 28] = [
-    4, 0, 2, 5, 0, 4, 6, 3, 8, 1, 0, 0, 0, 2, 2, 3, 7, 1, 1, 1, 0, 1, 0, 0, 1, 2, 2, 0,
-];
+const SCHEMA: [u8; 28] = [4, 0, 2, 5, 0, 4, 6, 3, 8, 1, 0, 0, 0, 2, 2, 3, 7, 1, 1, 1, 0, 1, 0, 0, 1, 2, 2, 0];
 const SHADE: [u32; 15] = [1, 4, 61, 9, 12, 165, 17, 243, 2, 2, 25, 20, 165, 2, 2];
 const FILE: [u8; 18] = [1, 4, 61, 9, 12, 165, 1, 17, 243, 1, 2, 2, 25, 20, 165, 1, 2, 2];
 const BEHIND: u32 = 77;
@@ -23,12 +21,12 @@ fn fault<T>(refusal: Refusal, place: usize) -> Result<T, Fault> {
     Err(Fault { refusal, place })
 }
 
-/// Makes one edit of the shade. A refusal changes nothing; an edit that is done leaves `left`, zeros up to the old length, and what
-/// was behind.
+/// Makes one edit of the shade: the new length and the change are due, or a fault. A refusal changes nothing; an edit that is done leaves
+/// `left`, zeros up to the old length, and what was behind.
 #[track_caller]
-fn edited(edit: Edit<'_>, due: Result<Done, Fault>, left: &[u32]) {
+fn edited(edit: Edit<'_>, due: Result<(usize, i32), Fault>, left: &[u32]) {
     let mut doc = shade();
-    assert_eq!(table().edit(&mut doc, 15, edit), due);
+    assert_eq!(table().edit(&mut doc, 15, edit).map(|done| (done.used, done.change)), due);
     let mut expected = shade();
     if due.is_ok() {
         expected[..15].fill(0);
@@ -94,27 +92,15 @@ fn edits() {
     let twin = [9, 12, 165, 2];
     let link = [25, 20, 165, 2];
     edited(Edit::remove(3), fault(Content, 0), &[]);
-    edited(Edit::remove(10), Ok(Done { used: 11, change: -4 }), &[1, 4, 61, 9, 12, 165, 17, 243, 2, 2, 2]);
+    edited(Edit::remove(10), Ok((11, -4)), &[1, 4, 61, 9, 12, 165, 17, 243, 2, 2, 2]);
     edited(Edit::remove(7), fault(Content, 6), &[]);
     edited(Edit::insert(10, &twin), fault(IdTwice, 12), &[]);
-    edited(
-        Edit::insert(10, &panel),
-        Ok(Done { used: 19, change: 4 }),
-        &[1, 4, 61, 9, 12, 165, 17, 243, 2, 2, 9, 12, 173, 2, 25, 20, 165, 2, 2],
-    );
+    edited(Edit::insert(10, &panel), Ok((19, 4)), &[1, 4, 61, 9, 12, 165, 17, 243, 2, 2, 9, 12, 173, 2, 25, 20, 165, 2, 2]);
     edited(Edit::insert(3, &link), fault(Content, 0), &[]);
-    edited(
-        Edit::insert(10, &link),
-        Ok(Done { used: 19, change: 4 }),
-        &[1, 4, 61, 9, 12, 165, 17, 243, 2, 2, 25, 20, 165, 2, 25, 20, 165, 2, 2],
-    );
+    edited(Edit::insert(10, &link), Ok((19, 4)), &[1, 4, 61, 9, 12, 165, 17, 243, 2, 2, 25, 20, 165, 2, 25, 20, 165, 2, 2]);
     edited(Edit::replace(3, &panel), fault(NoId, 9), &[]);
     edited(Edit::drop(3, &[12]), fault(Attributes, 3), &[]);
-    edited(
-        Edit::set(0, &[4, 69]),
-        Ok(Done { used: 15, change: 0 }),
-        &[1, 4, 69, 9, 12, 165, 17, 243, 2, 2, 25, 20, 165, 2, 2],
-    );
+    edited(Edit::set(0, &[4, 69]), Ok((15, 0)), &[1, 4, 69, 9, 12, 165, 17, 243, 2, 2, 25, 20, 165, 2, 2]);
     for place in [0, 1, 15, usize::MAX] {
         edited(Edit::insert(place, &panel), fault(Place, 0), &[]);
     }
@@ -132,35 +118,26 @@ fn raw_lengths() {
     let mut doc = shade();
     let given = (1 << 40) + 15;
     // SAFETY: the pointers are those of live slices, with their lengths.
-    let r = unsafe {
-        raw::shrike_edit(t.words().as_ptr(), TABLE_WORDS, doc.as_mut_ptr(), doc.len(), given, 2, 10, [].as_ptr(), 0)
-    };
+    let r = unsafe { raw::shrike_edit(t.words().as_ptr(), TABLE_WORDS, doc.as_mut_ptr(), doc.len(), given, 2, 10, [].as_ptr(), 0) };
     assert_eq!(r, raw::Answer { number: 4, place: 0, used: given, change: 0 });
     assert_eq!(doc, shade());
 }
 
 #[test]
-fn words() {
-    for (i, refusal) in Refusal::ALL.iter().enumerate() {
-        assert_eq!(refusal.number() as usize, i + 1);
-    }
-    let said: Vec<String> = Refusal::ALL.iter().map(|&refusal| Fault { refusal, place: 5 }.to_string()).collect();
-    assert_eq!(
-        said,
-        [
-            "broken number",
-            "schema value, form or limit",
-            "ambiguous model",
-            "no shape, or bad piece",
-            "too large, or no room",
-            "operation or place",
-            "name at 5",
-            "attributes at 5",
-            "content at 5",
-            "root at 5",
-            "ID twice at 5",
-            "reference to none at 5",
-            "table"
-        ]
-    );
+fn tokens() {
+    let of = [
+        token::start(0),
+        token::attribute(0),
+        token::value(7),
+        token::start(1),
+        token::attribute(1),
+        token::value(20),
+        token::start(2),
+        token::text(30),
+        token::end(),
+    ];
+    assert_eq!(of, SHADE[..9]);
+    let parts: Vec<(u32, u32)> = of.iter().map(|&t| (token::number(t), token::sort(t))).collect();
+    assert_eq!(parts, [(0, 1), (0, 4), (7, 5), (1, 1), (1, 4), (20, 5), (2, 1), (30, 3), (0, 2)]);
+    assert_eq!(token::text(65_535), 524_283);
 }

@@ -3,6 +3,8 @@
 // A slice is a pointer and a length, a struct is C's struct. No call asks anything of its arguments, allocates or keeps state; the
 // contract of each is that of the call it hands on: the answer and every place of lent memory.
 // Assumes nothing.
+pub mod version;
+
 ghost use mathlib.Core.Path.{_≡_};
 ghost use Rattle.paper.specs.Files;
 ghost use Rattle.paper.specs.Table;

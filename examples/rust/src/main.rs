@@ -2,8 +2,8 @@
 //!
 //!     cargo run -- ../../samples/small-shade
 //!
-//! Ends with 0 once every edit was tried, and with 1 if a file, the schema or the document is refused.
-use shrikemuff::{read, Edit, Refusal, Table, MOST_TOKENS};
+//! Ends with 0 once every edit was tried, and with 1 if the library, a file, the schema or the document is refused.
+use shrikemuff::{library_version, numbers, read, serves, Edit, Refusal, Table, MOST_TOKENS};
 use std::fs::File;
 use std::io::Read;
 use std::path::Path;
@@ -54,17 +54,21 @@ fn next_edit<'a>(file: &mut &[u8], piece: &'a mut Vec<u32>) -> Result<Edit<'a>, 
 /// The operation's name.
 fn name(operation: u32) -> &'static str {
     match operation {
-        1 => "insert",
-        2 => "remove",
-        3 => "replace",
-        4 => "set",
-        5 => "drop",
+        numbers::INSERT => "insert",
+        numbers::REMOVE => "remove",
+        numbers::REPLACE => "replace",
+        numbers::SET => "set",
+        numbers::DROP => "drop",
         _ => "no operation",
     }
 }
 
 /// Says what comes of everything; or what stops the program.
 fn run(folder: &Path) -> Result<(), String> {
+    let version = library_version();
+    if !serves(version) {
+        return Err(format!("library: refused, version {version}"));
+    }
     let schema = load(folder, "schema.dat")?;
     let document = load(folder, "doc.dat")?;
     let edits = load(folder, "edits.dat")?;
@@ -72,9 +76,7 @@ fn run(folder: &Path) -> Result<(), String> {
     let table = Table::translate(&schema).map_err(|refusal| format!("schema: refused, {refusal}"))?;
     let mut doc = vec![0; MOST_TOKENS];
     let mut used = read(&document, &mut doc).map_err(|refusal| format!("document: refused, {refusal}"))?;
-    table
-        .check(&doc, used)
-        .map_err(|fault| format!("check: refused, {fault}, {used} tokens"))?;
+    table.check(&doc, used).map_err(|fault| format!("check: refused, {fault}, {used} tokens"))?;
     println!("check: valid, {used} tokens");
 
     let mut rest = &edits[..];

@@ -1,0 +1,37 @@
+//! A library that is newer than the binding: `tests/hosts` runs this with tests/header/newer.c in the library's place.
+use shrikemuff::{library_version, read, write, Edit, Refusal, Table, TABLE_WORDS, VERSION};
+use std::env::set_var;
+
+/// What each call is refused with, in the order of `CALLS`.
+fn refusals() -> Vec<Option<Refusal>> {
+    let table = Table::from_words(Box::new([0; TABLE_WORDS]));
+    let mut doc = [0; 4];
+    vec![
+        read(&[], &mut doc).err(),
+        write(&[], &mut []).err(),
+        Table::translate(&[]).err(),
+        table.check(&doc, 0).err().map(|fault| fault.refusal),
+        table.edit(&mut doc, 0, Edit::remove(1)).err().map(|fault| fault.refusal),
+    ]
+}
+
+const CALLS: [&str; 5] = ["read", "write", "translate", "check", "edit"];
+
+#[test]
+#[ignore = "the library is not the newer one"]
+fn newer() {
+    for more in [1_000_000, 7_000_000] {
+        set_var("NEWER_BY", more.to_string());
+        assert_eq!(library_version(), VERSION + more);
+        assert_eq!(refusals(), [Some(Refusal::Version(VERSION + more)); 5]);
+    }
+    for more in [0, 1, 1_000] {
+        set_var("NEWER_BY", more.to_string());
+        for (i, call) in CALLS.iter().enumerate() {
+            set_var("NEW_IN", call);
+            let mut due = [None; 5];
+            due[i] = Some(Refusal::Unknown(1_013));
+            assert_eq!(refusals(), due);
+        }
+    }
+}

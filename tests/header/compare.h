@@ -1,0 +1,68 @@
+/* What the header's tests compare with, and what they take of the system: declared here, so that they are compiled for x86-64 also where
+ * the machine's own headers are another processor's. Linux; C99 and C++. */
+#ifndef COMPARE_H
+#define COMPARE_H
+
+#include "shrikemuff.h"
+
+#ifdef __cplusplus
+extern "C" {
+#endif
+int printf(const char *form, ...);
+void perror(const char *what);
+int memcmp(const void *a, const void *b, size_t n);
+int strcmp(const char *a, const char *b);
+void *memcpy(void *to, const void *from, size_t n);
+void *memset(void *to, int byte, size_t n);
+void *mmap(void *address, size_t length, int protection, int flags, int file, long offset);
+int mprotect(void *address, size_t length, int protection);
+#ifdef __cplusplus
+}
+#endif
+
+static unsigned compared, wrong;
+
+static inline void same(int line, const char *what, uint64_t got, uint64_t due) {
+    compared++;
+    if (got == due) return;
+    wrong++;
+    printf("line %d: %s is %llu and should be %llu\n", line, what, (unsigned long long)got, (unsigned long long)due);
+}
+
+static inline void bytes_same(int line, const void *got, const void *due, size_t n) {
+    compared++;
+    if (memcmp(got, due, n) == 0) return;
+    wrong++;
+    printf("line %d: memory is not as it should be\n", line);
+}
+
+static inline void counted(int line, shrike_count r, uint32_t number, uint32_t count) {
+    same(line, "number", r.number, number);
+    same(line, "count", r.count, count);
+}
+
+static inline void judged(int line, shrike_verdict r, uint32_t number, uint32_t place) {
+    same(line, "number", r.number, number);
+    same(line, "place", r.place, place);
+}
+
+static inline void answered(int line, shrike_answer r, uint32_t number, uint32_t place, uint64_t used, int32_t change) {
+    same(line, "number", r.number, number);
+    same(line, "place", r.place, place);
+    same(line, "used", r.used, used);
+    same(line, "change", (uint64_t)(int64_t)r.change, (uint64_t)(int64_t)change);
+}
+
+#define COUNTED(call, number, count) counted(__LINE__, call, number, count)
+#define JUDGED(call, number, place) judged(__LINE__, call, number, place)
+#define ANSWERED(call, number, place, used, change) answered(__LINE__, call, number, place, used, change)
+#define SAME(what, got, due) same(__LINE__, what, got, due)
+#define BYTES(got, due, n) bytes_same(__LINE__, got, due, n)
+
+/* What a program says at its end, and its status: 1 if anything was wrong. */
+static inline int told(void) {
+    printf("%u compared, %u wrong\n", compared, wrong);
+    return wrong != 0;
+}
+
+#endif

@@ -1,0 +1,41 @@
+/* In place of the library, one that is newer than its host. Its version is NEWER_BY more than the header's, and the call that NEW_IN names
+ * answers a number that the header does not have; the others say that all is done, and do nothing. */
+#include "shrikemuff.h"
+
+#include <stdlib.h>
+#include <string.h>
+
+static uint32_t answer(const char *call) {
+    const char *name = getenv("NEW_IN");
+    return name != NULL && strcmp(name, call) == 0 ? SHRIKE_TABLE + 1000 : SHRIKE_DONE;
+}
+
+uint32_t shrike_version(void) {
+    const char *more = getenv("NEWER_BY");
+    return SHRIKE_VERSION + (more == NULL ? 0 : (uint32_t)atol(more));
+}
+
+shrike_count shrike_read(const uint8_t *file, size_t file_len, uint32_t *tokens, size_t room) {
+    shrike_count r = {answer("read"), 0};
+    return (void)file, (void)file_len, (void)tokens, (void)room, r;
+}
+
+shrike_count shrike_write(const uint32_t *tokens, size_t n, uint8_t *file, size_t room) {
+    shrike_count r = {answer("write"), 0};
+    return (void)tokens, (void)n, (void)file, (void)room, r;
+}
+
+uint32_t shrike_translate(const uint8_t *file, size_t file_len, uint64_t *table, size_t words) {
+    return (void)file, (void)file_len, (void)table, (void)words, answer("translate");
+}
+
+shrike_verdict shrike_check(const uint64_t *table, size_t words, const uint32_t *doc, size_t room, uint64_t used) {
+    shrike_verdict r = {answer("check"), 0};
+    return (void)table, (void)words, (void)doc, (void)room, (void)used, r;
+}
+
+shrike_answer shrike_edit(const uint64_t *table, size_t words, uint32_t *doc, size_t room, uint64_t used, uint32_t operation,
+                          uint64_t place, const uint32_t *piece, size_t n) {
+    shrike_answer r = {answer("edit"), 0, used, 0};
+    return (void)table, (void)words, (void)doc, (void)room, (void)operation, (void)place, (void)piece, (void)n, r;
+}
