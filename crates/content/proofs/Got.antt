@@ -15,10 +15,13 @@ use Rattle.paper.specs.Basics.{mostNames}
 use Rattle.paper.specs.Expressions.{Expr, name, seq, alt, opt, star, plus, count}
 use Rattle.paper.specs.Sets.{when, firstWord, lastWord}
 use Rattle.paper.specs.Schema.{symbolsOf}
-use Rattle.sets.specs.Laws.{clash}
+use Rattle.basic_laws.specs.Lists.{drop-next}
+use Rattle.basic_laws.specs.Bools.{clash}
 use Rattle.sets.specs.Joined.{joined}
 use Rattle.content.specs.declared.Part.{Part}
-use Rattle.content.specs.Front.{count-some, symbols-some, same-rest, same-expr, part-of, parts-of}
+use Rattle.content_laws.specs.Names.{count-some}
+use Rattle.content_laws.specs.Symbols.{symbols-some}
+use Rattle.content.specs.Front.{same-rest, same-expr, part-of, parts-of}
 use Rattle.content.specs.Linked.{linked, linked-name, linked-opt, linked-alt, linked-seq, linked-round}
 use Rattle.content.specs.Parts.{Found, Nothing, Got, single, sequence, choice, also}
 
@@ -27,10 +30,6 @@ lost o h = record { found = λ e. clash e o; lost = λ e. h }
 
 found : {s : List ℕ} {at p : ℕ} {f g : List ℕ} {q r : Part} → r ≡ q → q .ok ≡ true → Found s at p f g q → Got s at p f g r
 found w o h = rw w (record { found = λ e. h; lost = λ e. clash o e })
-
--- the symbol at a place, and those after it
-ahead : (s : List ℕ) (at : ℕ) → at < length s → drop at s ≡ getD s at 0 ∷ drop (at + 1) s
-ahead s at h = rw (add-one, drop-cons s at 0)
 
 -- an expression takes symbols
 falls : {s : List ℕ} {at p : ℕ} {f g : List ℕ} {r : Part} → Found s at p f g r → length s - r .next < length s - at
@@ -50,14 +49,14 @@ got-full h o = lost o (λ e t c l. omega (arith, count-some e))
 module _ {s : List ℕ} {at p : ℕ} {f g : List ℕ} {a : Part} (h : at < length s) (x : Got s (at + 1) p f g a) where
   pub got-no-part : {k : List ℕ} {r : Part} → getD s at 0 < 5 → not (a .ok) ≡ true → r .ok ≡ false → Got s at p f k r
   got-no-part op t o = lost o λ e u c l.
-      let (d, v, i, n) = part-of e (getD s at 0) (drop (at + 1) s) u (sym (ahead s at h) ∙ c) op in
+      let (d, v, i, n) = part-of e (getD s at 0) (drop (at + 1) s) u (sym (drop-next s at h) ∙ c) op in
       x .lost (not-true (a .ok) t) d v i (omega arith)
 
   pub got-no-second : {k m : List ℕ} {b r : Part} → (getD s at 0 ≡ 2 → ⊥) → getD s at 0 ≤ 2 → not (a .ok) ≡ false
       → Got s (a .next) (a .places) g k b → not (b .ok) ≡ true → r .ok ≡ false → Got s at p f m r
   got-no-second {b = b} two op t y u o = lost o λ e v c l.
       let m = x .found (not-false (a .ok) t) in
-      let (d, d′, i, n) = parts-of e (getD s at 0) (drop (at + 1) s) v (sym (ahead s at h) ∙ c) (omega arith) in
+      let (d, d′, i, n) = parts-of e (getD s at 0) (drop (at + 1) s) v (sym (drop-next s at h) ∙ c) (omega arith) in
       let same : d ≡ m .expr = same-expr d (m .expr) _ _ (sym i ∙ m .here) in
       let rest : symbolsOf d′ ++ v ≡ drop (a .next) s = same-rest d (m .expr) _ _ (sym i ∙ m .here) in
       y .lost (not-true (b .ok) u) d′ v (sym rest) (omega (arith, ap count same, m .places))
@@ -70,7 +69,7 @@ got-name {s} {at} {p} {f} h op l w =
     let i : getD s at 0 ≡ 5 + a = omega arith in
     found w refl (record {
       expr = name a;
-      here = ahead s at h ∙ ap (λ x. x ∷ drop (at + 1) s) i;
+      here = drop-next s at h ∙ ap (λ x. x ∷ drop (at + 1) s) i;
       within = omega arith;
       places = refl;
       fits = omega arith;
@@ -91,7 +90,7 @@ module _ {s : List ℕ} {at p : ℕ} {f g : List ℕ} {a : Part} (h : at < lengt
       let m = x .found (not-false (a .ok) t) in
       found w refl (record {
         expr = opt (m .expr);
-        here = ahead s at h ∙ ap₂ _∷_ op (m .here);
+        here = drop-next s at h ∙ ap₂ _∷_ op (m .here);
         within = m .within;
         places = m .places;
         fits = m .fits;
@@ -116,7 +115,7 @@ module _ {s : List ℕ} {at p : ℕ} {f g : List ℕ} {a : Part} (h : at < lengt
       zero-or-more : getD s at 0 ≡ 3 → r ≡ also true a → Got s at p f k r
       zero-or-more op w = found w refl (record {
         expr = star (m .expr);
-        here = ahead s at h ∙ ap₂ _∷_ op (m .here);
+        here = drop-next s at h ∙ ap₂ _∷_ op (m .here);
         within = m .within;
         places = m .places;
         fits = m .fits;
@@ -129,7 +128,7 @@ module _ {s : List ℕ} {at p : ℕ} {f g : List ℕ} {a : Part} (h : at < lengt
       one-or-more : getD s at 0 ≡ 4 → r ≡ also false a → Got s at p f k r
       one-or-more op w = found w refl (record {
         expr = plus (m .expr);
-        here = ahead s at h ∙ ap₂ _∷_ op (m .here);
+        here = drop-next s at h ∙ ap₂ _∷_ op (m .here);
         within = m .within;
         places = m .places;
         fits = m .fits;
@@ -165,7 +164,7 @@ module _ {s : List ℕ} {at p : ℕ} {f g k : List ℕ} {a b : Part} (h : at < l
     pub got-choice : {r : Part} → getD s at 0 ≡ 1 → r ≡ choice a b → Got s at p f k r
     got-choice op w = found w refl (record {
       expr = alt d d′;
-      here = ahead s at h ∙ ap₂ _∷_ op both-here;
+      here = drop-next s at h ∙ ap₂ _∷_ op both-here;
       within = second-part .within;
       places = omega (arith, second-part .places);
       fits = second-part .fits;
@@ -179,7 +178,7 @@ module _ {s : List ℕ} {at p : ℕ} {f g k : List ℕ} {a b : Part} (h : at < l
         → l ≡ joined (a .last) (b .first) k → r ≡ sequence a b → Got s at p f l r
     got-sequence one two op j w = found w refl (record {
       expr = seq d d′;
-      here = ahead s at h ∙ ap₂ _∷_ (omega arith) both-here;
+      here = drop-next s at h ∙ ap₂ _∷_ (omega arith) both-here;
       within = second-part .within;
       places = omega (arith, second-part .places);
       fits = second-part .fits;

@@ -1,4 +1,3 @@
 -- Laws that the proofs share.
 pub mod Got
 pub mod Modelled
-pub mod Sharing

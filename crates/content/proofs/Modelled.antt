@@ -11,8 +11,8 @@ use lib.ListN.{length, take, drop, set, replicate, length-set, length-drop, repl
 use Rattle.paper.specs.Basics.{mostNames}
 use Rattle.paper.specs.Expressions.{Expr, count}
 use Rattle.paper.specs.Schema.{symbolsOf}
+use Rattle.basic_laws.specs.Bools.{clash}
 use Rattle.content_laws.specs.Symbols.{exprOf-iff}
-use Rattle.sets.specs.Laws.{clash}
 use Rattle.content.specs.declared.Part.{Part}
 use Rattle.content.specs.declared.Model.{Model}
 use Rattle.content.specs.Front.{same-rest}

@@ -7,30 +7,13 @@ use native.Mathlib.Omega.{arith}
 use lib.ListN.{length}
 use Rattle.paper.specs.Expressions.{Expr, name, seq, alt, opt, star, plus, count}
 use Rattle.paper.specs.Schema.{symbolsOf, exprOf}
-use Rattle.content_laws.specs.Symbols.{exprOf-iff}
+use Rattle.basic_laws.specs.Numbers.{five}
+use Rattle.content_laws.specs.Names.{count-some}
+use Rattle.content_laws.specs.Symbols.{exprOf-iff, symbols-some}
 
 -- ---- at least one name, at least one symbol
 
-pub count-some : (e : Expr) → 1 ≤ count e
-count-some (name a) = omega arith
-count-some (seq e f) = let h = count-some e in omega arith
-count-some (alt e f) = let h = count-some e in omega arith
-count-some (opt e) = count-some e
-count-some (star e) = count-some e
-count-some (plus e) = count-some e
-
-pub symbols-some : (e : Expr) → 1 ≤ length (symbolsOf e)
-symbols-some (name a) = omega arith
-symbols-some (seq e f) = omega arith
-symbols-some (alt e f) = omega arith
-symbols-some (opt e) = omega arith
-symbols-some (star e) = omega arith
-symbols-some (plus e) = omega arith
-
 -- ---- where an expression ends
-
-pub five : (a : ℕ) → 5 + a ≡ suc (suc (suc (suc (suc a))))
-five a = omega arith
 
 -- how many expressions are due after the symbol, where n are due after its expression
 abbrev due : ℕ → ℕ → ℕ

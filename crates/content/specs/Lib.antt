@@ -1,10 +1,9 @@
--- Content models read from their symbols. What is proved stands in `Theorems`; what the contracts cite stands in Parts, Model, Listed
--- and Clear.
+-- Content models read from their symbols. What the contracts cite stands in Parts, Model and Listed.
+-- Which expression symbols begin with
 pub mod Front
+-- Follow sets in a list of words
 pub mod Linked
+-- The reader of an expression, of a model, of the names
 pub mod Parts
 pub mod Model
 pub mod Listed
-pub mod Clear
-pub mod Together
-pub mod Theorems

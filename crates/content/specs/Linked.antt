@@ -1,15 +1,15 @@
 -- The follow sets of an expression, put into a list of words: word k is that of occurrence k. Assumes nothing.
 use mathlib.Core.Path.{_≡_, refl, sym, ap, ap₂, _∙_}
 use mathlib.Core.List.{List, [], _∷_}
-use Prim.Native.Nat.{ℕ, zero, suc, _+_, _/_, _%_, _<_, max}
+use Prim.Native.Nat.{ℕ, zero, suc, _+_, _<_}
 use native.Mathlib.Omega.{arith}
-use lib.Arith.{bin-ind}
 use lib.Seq.{ext-getD}
 use lib.ListN.{length, getD}
-use lib.Bits.{bitOr, or-step, or-zero-l, or-zero-r}
+use lib.Bits.{bitOr, or-zero-r}
 use Rattle.paper.specs.Expressions.{Expr, name, seq, alt, opt, count}
 use Rattle.paper.specs.Sets.{when, last, firstWord, lastWord, followWord}
 use Rattle.content_laws.specs.Words.{last-word}
+use Rattle.sets.specs.Union.{or-assoc}
 use Rattle.sets.specs.Joined.{joined, length-joined, joined-at}
 
 -- each word with f's word for its place in it, where the first place is j
@@ -42,19 +42,6 @@ linked-at b e l k h = orFrom-at (followWord b e) 0 l k h ∙ ap (λ i. bitOr (ge
 -- a list of the same length that holds at each place what `linked` does
 linked-ext : (b : ℕ) (e : Expr) (l m : List ℕ) → length m ≡ length l → ((k : ℕ) → k < length l → getD m k 0 ≡ bitOr (getD l k 0) (followWord b e k)) → m ≡ linked b e l
 linked-ext b e l m n f = ext-getD 0 m (linked b e l) (n ∙ sym (length-linked b e l)) (λ k h. let i : k < length l = omega arith in f k i ∙ sym (linked-at b e l k i))
-
--- ---- `|` of three
-
-or-half : (a b : ℕ) → (bitOr a b / 2 ≡ bitOr (a / 2) (b / 2)) × (bitOr a b % 2 ≡ max (a % 2) (b % 2))
-or-half a b = let s = or-step a b in omega arith
-
-pub or-assoc : (a b c : ℕ) → bitOr (bitOr a b) c ≡ bitOr a (bitOr b c)
-or-assoc = bin-ind (λ a. (b c : ℕ) → bitOr (bitOr a b) c ≡ bitOr a (bitOr b c))
-    (λ b c. ap (λ v. bitOr v c) (or-zero-l b) ∙ sym (or-zero-l (bitOr b c)))
-    (λ a ih b c.
-    let h : bitOr (bitOr a b / 2) (c / 2) ≡ bitOr (a / 2) (bitOr b c / 2)
-    = ap (λ v. bitOr v (c / 2)) (or-half a b .0) ∙ ih (b / 2) (c / 2) ∙ ap (bitOr (a / 2)) (sym (or-half b c .0)) in
-    omega (arith, or-step (bitOr a b) c, or-step a (bitOr b c), or-half a b .1, or-half b c .1))
 
 -- ---- the links of an expression are those of its parts, and those between them
 

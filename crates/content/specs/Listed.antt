@@ -1,6 +1,6 @@
 -- The names of a model's occurrences, in reading order, are the names among its symbols. Assumes nothing.
 use mathlib.Core.Path.{_≡_, refl, sym, ap, ap₂, _∙_}
-use mathlib.Core.Bool.{Bool, true, false}
+use mathlib.Core.Bool.{Bool, true, false, and-eq-true-iff}
 use mathlib.Core.Option.{some}
 use mathlib.Core.List.{List, [], _∷_, _++_}
 use Prim.Native.Nat.{ℕ, zero, suc, _+_, _-_, _≤_, _<_}
@@ -15,7 +15,6 @@ use Rattle.paper.specs.Expressions.{Expr, name, seq, alt, opt, star, plus, name
 use Rattle.paper.specs.Schema.{symbolsOf, exprOf}
 use Rattle.content_laws.specs.Symbols.{exprOf-iff}
 use Rattle.content_laws.specs.Names.{length-names}
-use Rattle.sets.specs.Laws.{and-parts}
 
 -- the names among the symbols
 abbrev pub namesIn : List ℕ → List ℕ
@@ -42,8 +41,8 @@ names-symbols (plus e) = names-symbols e
 pub listed-below : (E : ℕ) (l : List ℕ) → all (between 0 (4 + E)) l ≡ true → all (λ a. ltb a E) (namesIn l) ≡ true
 listed-below E [] e = refl
 listed-below E (x ∷ l) e =
-    let (p, q) = and-parts (between 0 (4 + E) x) (all (between 0 (4 + E)) l) e in
-    let high = leb-true x (4 + E) (and-parts (leb 0 x) (leb x (4 + E)) p .1) in
+    let (p, q) = and-eq-true-iff (between 0 (4 + E) x) (all (between 0 (4 + E)) l) .0 e in
+    let high = leb-true x (4 + E) (and-eq-true-iff (leb 0 x) (leb x (4 + E)) .0 p .1) in
     go (leb 5 x) refl high (listed-below E l q)
   where
     go : (b : Bool) → leb 5 x ≡ b → x ≤ 4 + E → all (λ a. ltb a E) (namesIn l) ≡ true → all (λ a. ltb a E) (consIf b (x - 5) (namesIn l)) ≡ true

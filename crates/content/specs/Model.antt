@@ -12,9 +12,10 @@ use Rattle.paper.specs.Basics.{mostNames, from, pad}
 use Rattle.paper.specs.Expressions.{Expr, count}
 use Rattle.paper.specs.Sets.{nullable, follow, firstWord, lastWord, followWord}
 use Rattle.paper.specs.Schema.{exprOf}
+use Rattle.paper_laws.specs.Words.{none-zero}
+use Rattle.paper_laws.specs.Basics.{length-from, length-pad}
 use Rattle.content_laws.specs.Within.{follow-within}
 use Rattle.content_laws.specs.Words.{follow-word}
-use Rattle.sets.specs.Laws.{none-zero}
 use Rattle.content.specs.declared.Model.{Model}
 use Rattle.content.specs.Linked.{orFrom, linked}
 
@@ -46,43 +47,10 @@ pub record Modelled (s g : List ℕ) (r : Model) : Type 0 where
   pub found : r .ok ≡ true → ModelOf s g r
   pub none : r .ok ≡ false → NoModel s g r
 
--- ---- for the same symbols the same is given
-
-module _ {s g g′ : List ℕ} {r r′ : Model} (m : Modelled s g r) (m′ : Modelled s g′ r′) where
-  both-found : r .ok ≡ true → r′ .ok ≡ true → (r ≡ r′) × (g ≡ g′)
-  both-found o o′ =
-      let f = m .found o in
-      let f′ = m′ .found o′ in
-      let c : some (f .expr) ≡ some (f′ .expr) = sym (f .reads) ∙ f′ .reads in
-      let e : f .expr ≡ f′ .expr = cc in (
-        same (o ∙ sym o′) (f .count ∙ ap count e ∙ sym (f′ .count)) (f .nullable ∙ ap nullable e ∙ sym (f′ .nullable))
-            (f .first ∙ ap (firstWord 0) e ∙ sym (f′ .first)) (f .last ∙ ap (lastWord 0) e ∙ sym (f′ .last)),
-        f .follow ∙ ap followWords e ∙ sym (f′ .follow),
-      )
-    where
-      same : r .ok ≡ r′ .ok → r .count ≡ r′ .count → r .nullable ≡ r′ .nullable → r .first ≡ r′ .first → r .last ≡ r′ .last → r ≡ r′
-      same a b c d e = λ i. record { ok = a i; count = b i; nullable = c i; first = d i; last = e i }
-
-  pub modelled-same : (r ≡ r′) × (g ≡ g′)
-  modelled-same = go (r .ok) (r′ .ok) refl refl
-    where
-      go : (o o′ : Bool) → r .ok ≡ o → r′ .ok ≡ o′ → (r ≡ r′) × (g ≡ g′)
-      go true true p q = both-found p q
-      go true false p q = let f = m .found p in absurd (m′ .none q .never (f .expr) (f .reads) (f .fits))
-      go false true p q = let f = m′ .found q in absurd (m .none p .never (f .expr) (f .reads) (f .fits))
-      go false false p q = let n = m .none p in let n′ = m′ .none q in (n .empty ∙ sym (n′ .empty), n .follow ∙ sym (n′ .follow))
-
 -- ---- the follow sets over zeros
-
-length-from : (b n : ℕ) → length (from b n) ≡ n
-length-from b zero = refl
-length-from b (suc n) = ap suc (length-from (suc b) n)
 
 pub length-words : (e : Expr) → length (map (followWord 0 e) (from 0 (count e))) ≡ count e
 length-words e = length-map (from 0 (count e)) (followWord 0 e) ∙ length-from 0 (count e)
-
-pub length-pad : (n : ℕ) (l : List ℕ) → length l ≤ n → length (pad n l) ≡ n
-length-pad n l h = omega (arith, length-append l (replicate (n - length l) 0), length-replicate (n - length l) zero)
 
 module _ (f : ℕ → ℕ) where
   or-zeros : (j n : ℕ) → orFrom f j (replicate n 0) ≡ map f (from j n)

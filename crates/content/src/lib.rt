@@ -1,37 +1,30 @@
-// Content models, read from their symbols: the sets of first and last occurrences and the follow sets, the names of the
-// occurrences, and the test for ambiguity.
+// Content models, read from their symbols: the sets of first and last occurrences and the follow sets, and the names of the
+// occurrences.
 //
 // An operator stands before its parts, so an expression is read by recursion: n symbols are read at most n + 1 calls deep. A
 // set is a word, bit k for occurrence k. Assumes nothing.
+use paper::MOST_NAMES;
 use sets::connect;
-use sets::has;
-use sets::is_within;
 use sets::one;
-use sets::one_each;
+use sets::when;
 ghost use mathlib.Core.Path.{_≡_};
-ghost use mathlib.Core.Bool.{true, false};
+ghost use mathlib.Core.Bool.{false};
 ghost use Prim.Native.Nat.{_+_, _≤_, _<_, _^_};
 ghost use lib.Seq.{sets};
-ghost use lib.ListN.{length, take, replicate};
-ghost use Rattle.paper.specs.Basics.{mostNames, distinct};
-ghost use Rattle.paper.specs.Table.{chosen};
-ghost use Rattle.sets.specs.Chosen.{small};
-ghost use Rattle.paper.specs.Sets;
+ghost use lib.ListN.{length, replicate};
+ghost use Rattle.paper.specs.Basics.{mostNames};
 ghost use Rattle.content.specs.Parts.{Got, single, sequence, choice, also};
 ghost use Rattle.content.specs.Model.{Modelled, noModel};
 ghost use Rattle.content.specs.Listed.{namesIn};
-ghost use Rattle.content.specs.Clear.{isClear, Bounded, Low, Twice, Places};
 
-// The symbols: 0 is a sequence, 4 is one or more, and 5 and above a name.
-const CHOICE: u8 = 1;
+// The symbols that are told apart, as bytes.
+const CHOICE: u8 = paper::CHOICE as u8;
 
-const OPTIONAL: u8 = 2;
+const OPTIONAL: u8 = paper::OPTIONAL as u8;
 
-const ZERO_OR_MORE: u8 = 3;
+const ZERO_OR_MORE: u8 = paper::ZERO_OR_MORE as u8;
 
-const NAME: u8 = 5;
-
-const MOST_NAMES: usize = 64;
+const NAMED: u8 = paper::NAMED as u8;
 
 // An expression that was read, if `ok`: the place after it, the number of the next occurrence, whether no child at all matches,
 // and the sets of its first and last occurrences.
@@ -72,16 +65,6 @@ fn one_name(at: usize, p: usize) -> Part
         first: alone,
         last: alone,
     }
-}
-
-// The set if the test holds, and else none.
-fn when(test: bool, set: u64) -> u64
-    ensures { λ r. ⌜ r ≡ Sets.when test set ⌝ }
-{
-    if test {
-        return set;
-    }
-    0
 }
 
 // One part after the other.
@@ -136,7 +119,7 @@ fn read(s: &[u8], at: usize, p: usize, follow: &mut [u64]) -> Part
         return nothing();
     }
     let symbol = s[at];
-    if symbol >= NAME {
+    if symbol >= NAMED {
         if p >= MOST_NAMES {
             return nothing();
         }
@@ -231,80 +214,10 @@ pub fn list_names(s: &[u8], names: &mut [u64])
     let mut i: usize = 0;
     while i < s.len() {
         let symbol = s[i];
-        if symbol >= NAME {
-            names[n] = wide(symbol - NAME);
+        if symbol >= NAMED {
+            names[n] = wide(symbol - NAMED);
             n += 1;
         }
         i += 1;
     }
-}
-
-// The names that stand at two or more of the first n places.
-fn repeated(n: usize, names: &[u64]) -> u64
-    requires { ⌜ Low n (now names) ⌝ }
-    ensures { λ r. ⌜ Twice n (now (names .entry)) r ⌝ }
-{
-    let mut seen: u64 = 0;
-    let mut twice: u64 = 0;
-    let mut i: usize = 0;
-    while i < n {
-        let name = one(names[i] as u32);
-        twice = twice | (seen & name);
-        seen = seen | name;
-        i += 1;
-    }
-    twice
-}
-
-// The places, of the first n, whose name is in the set.
-fn places_of(set: u64, n: usize, names: &[u64]) -> u64
-    requires { ⌜ Low n (now names) ⌝ }
-    ensures { λ r. ⌜ Places set n (now (names .entry)) r ⌝ }
-{
-    let mut found: u64 = 0;
-    let mut i: usize = 0;
-    while i < n {
-        found = found | when(has(set, names[i] as u32), one(i as u32));
-        i += 1;
-    }
-    found
-}
-
-// No two members have one name. No two of `known` have, so a part of it needs no walk.
-fn once_after(known: u64, set: u64, names: &[u64]) -> bool
-    requires { ⌜ (length (now names) ≡ mostNames) × (small (chosen set (now names)) ≡ true) × (distinct (chosen known (now names)) ≡ true) ⌝ }
-    ensures { λ r. ⌜ r ≡ distinct (chosen set (now (names .entry))) ⌝ }
-{
-    if is_within(set, known) {
-        return true;
-    }
-    one_each(set, names)
-}
-
-// Neither the first set nor any of the follow sets of the `count` occurrences holds two of one name. Where all names differ
-// there is nothing to look for; else only occurrences of names that stand twice are walked over, and not where the set before
-// has them all.
-pub fn clear(count: usize, first: u64, names: &[u64], follow: &[u64]) -> bool
-    requires { ⌜ Bounded count (now names) (now follow) ⌝ }
-    ensures { λ r. ⌜ r ≡ isClear first (take count (now (names .entry))) (take count (now (follow .entry))) ⌝ }
-{
-    let twice = repeated(count, names);
-    if twice == 0 {
-        return true;
-    }
-    let shared = places_of(twice, count, names);
-    let mut known = first & shared;
-    if !one_each(known, names) {
-        return false;
-    }
-    let mut k: usize = 0;
-    while k < count {
-        let set = follow[k] & shared;
-        if !once_after(known, set, names) {
-            return false;
-        }
-        known = set;
-        k += 1;
-    }
-    true
 }

@@ -3,11 +3,11 @@ use mathlib.Core.Logic.{_⊎_, inl, inr}
 use Prim.Native.Nat.{ℕ, _+_}
 use mathlib.Core.List.{List, [], _∷_}
 use lib.Dec.{T}
-use Rattle.content_laws.specs.Tools.{or-iff, tests}
 use Rattle.paper.specs.Expressions.{Expr, alt, count}
 use Rattle.paper.specs.Sets.{last, follow}
 use Rattle.content_laws.specs.Within.{Within, apart, last-within, follow-within}
 use Rattle.paper.specs.Rules.{start, at}
+use Rattle.basic_laws.specs.Tests.{or-iff, tests}
 use Rattle.content_laws.specs.Walk.{Walk, carry}
 
 module _ (b : ℕ) (e f : Expr) where

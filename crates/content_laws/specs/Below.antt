@@ -8,8 +8,8 @@ use native.Mathlib.Omega.{arith}
 use native.Mathlib.Decide.{ℕ-discrete}
 use lib.Dec.{T}
 use Rattle.paper.specs.Sets.{Set}
-use Rattle.content_laws.specs.Tools.{or-iff, tests}
 use Rattle.paper.specs.Basics.{any, find}
+use Rattle.basic_laws.specs.Tests.{or-iff, tests}
 
 any-to : (S : Set) (n : ℕ) → T (any S n) → (k : ℕ) × (k < n) × T (S k)
 any-to S (suc n) t = elim (simp or-iff at t) [

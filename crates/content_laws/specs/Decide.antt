@@ -6,11 +6,11 @@ use Prim.Native.Nat.{ℕ, _<_}
 use native.Mathlib.Omega.{arith}
 use native.Mathlib.Decide.{decLt}
 use lib.Dec.{T, eqb, eqb→eq, eqb-refl}
-use Rattle.content_laws.specs.Tools.{or-iff, and-iff, tests}
 use Rattle.paper.specs.Expressions.{Expr, count, nameAt, Ambiguous}
 use Rattle.paper.specs.Sets.{Set, first, follow, clash, ambiguous}
 use Rattle.content_laws.specs.Within.{Within, first-within, follow-within}
 use Rattle.paper.specs.Basics.{any}
+use Rattle.basic_laws.specs.Tests.{or-iff, and-iff, tests}
 use Rattle.content_laws.specs.Below.{any-iff}
 use Rattle.content_laws.specs.Ambiguity.{Clash, ambiguous-iff}
 

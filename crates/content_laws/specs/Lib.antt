@@ -1,6 +1,5 @@
 -- Content models and Glushkov's sets. What is proved stands in `Theorems`; the definitions that it speaks of are the paper's
 -- (Expressions, Sets, Matching, Schema) and, for the automaton, those of Walk and Run.
-pub mod Tools
 pub mod Names
 pub mod Meaning
 pub mod Symbols
@@ -20,4 +19,3 @@ pub mod Decide
 pub mod Run
 pub mod Words
 pub mod Theorems
-pub mod Examples

@@ -6,13 +6,13 @@ use mathlib.Core.Bool.{Bool, true, false, _||_}
 use Prim.Native.Nat.{ℕ}
 use mathlib.Core.List.{List, [], _∷_, map, nil≢cons, cons≢nil, head-eq-of-cons-eq, tail-eq-of-cons-eq}
 use lib.Dec.{T, eqb, eqb→eq, eqb-refl}
-use Rattle.content_laws.specs.Tools.{or-iff, and-iff, tests}
 use Rattle.paper.specs.Expressions.{Expr, name, seq, alt, opt, star, plus, nameAt, Matches, this, then, left, right, take, stop, more, some}
 use Rattle.content_laws.specs.Meaning.{Split, of-name, of-seq, of-alt, of-opt, of-plus}
 use Rattle.content_laws.specs.Marked.{matches-marked}
 use Rattle.paper.specs.Sets.{nullable}
 use Rattle.content_laws.specs.Useful.{nullable-iff}
 use Rattle.paper.specs.Matching.{Reading, spot, both, either, maybe, many, some as often, fresh, erase, over, shift, goes, matches}
+use Rattle.basic_laws.specs.Tests.{or-iff, and-iff, tests}
 
 -- what can still come after a mark
 abbrev Rest : Reading → List ℕ → Type 0

@@ -9,7 +9,6 @@ use Prim.Native.Nat.{ℕ}
 use native.Mathlib.Omega.{arith}
 use mathlib.Core.List.{List, [], _∷_, _++_, map, map-append, nil≢cons, head-eq-of-cons-eq, tail-eq-of-cons-eq}
 use lib.Dec.{T, eqb, eqb→eq, eqb-refl}
-use Rattle.content_laws.specs.Tools.{and-iff, tests}
 use Rattle.paper.specs.Expressions.{Expr, count, nameAt, Matches, Marked, Ambiguous}
 use Rattle.content_laws.specs.Marked.{matches-marked}
 use Rattle.paper.specs.Sets.{Set}
@@ -19,6 +18,7 @@ use Rattle.content_laws.specs.Glushkov.{glushkov}
 use Rattle.content_laws.specs.Useful.{reads-iff}
 use Rattle.content_laws.specs.Ambiguity.{only-one}
 use Rattle.paper.specs.Basics.{find}
+use Rattle.basic_laws.specs.Tests.{and-iff, tests}
 use Rattle.content_laws.specs.Below.{find-cases}
 
 -- the occurrences of the name a that can come next

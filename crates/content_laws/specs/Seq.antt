@@ -4,12 +4,12 @@ use mathlib.Core.Logic.{_⊎_, inl, inr}
 use Prim.Native.Nat.{ℕ, _+_}
 use mathlib.Core.List.{List, [], _∷_, _++_}
 use lib.Dec.{T}
-use Rattle.content_laws.specs.Tools.{or-iff, or3-iff, and-iff, tests}
 use Rattle.paper.specs.Expressions.{Expr, seq, count}
 use Rattle.content_laws.specs.Meaning.{Split}
 use Rattle.paper.specs.Sets.{nullable, first, last, follow}
 use Rattle.content_laws.specs.Within.{Within, apart, last-within, follow-within}
 use Rattle.paper.specs.Rules.{State, start, at}
+use Rattle.basic_laws.specs.Tests.{or-iff, or3-iff, and-iff, tests}
 use Rattle.content_laws.specs.Walk.{next, ends, Walk, Of, next-of, carry, join}
 
 module _ (b : ℕ) (e f : Expr) where

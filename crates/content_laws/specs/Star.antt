@@ -5,11 +5,11 @@ use mathlib.Core.Logic.{_⊎_, inl, inr}
 use Prim.Native.Nat.{ℕ}
 use mathlib.Core.List.{List, [], _∷_, _++_}
 use lib.Dec.{T}
-use Rattle.content_laws.specs.Tools.{or-iff, and-iff, tests}
 use Rattle.paper.specs.Expressions.{Expr, opt, star, plus, stop, more, some, Marked}
 use Rattle.content_laws.specs.Meaning.{Split}
 use Rattle.paper.specs.Sets.{first}
 use Rattle.paper.specs.Rules.{State, start, at}
+use Rattle.basic_laws.specs.Tests.{or-iff, and-iff, tests}
 use Rattle.content_laws.specs.Walk.{next, ends, Walk, carry, join}
 
 module _ (b : ℕ) (e : Expr) where

@@ -2,13 +2,27 @@
 -- they are its prefix form. Assumes nothing.
 use mathlib.Core.Path.{_≡_, refl, sym, ap, _∙_}
 use mathlib.Core.Logic.{_↔_}
+use mathlib.Core.Bool.{Bool, true, false}
 use mathlib.Core.Option.{Option, none, some}
 use mathlib.Core.List.{List, [], _∷_, _++_, append-assoc, append-nil}
-use Prim.Native.Nat.{ℕ, zero, suc, _+_, _-_}
+use Prim.Native.Nat.{ℕ, zero, suc, _+_, _-_, _≤_}
 use native.Mathlib.Omega.{arith}
-use borrow.Author.Tests.{ne-eqb}
-use Rattle.paper.specs.Expressions.{Expr, name, seq, alt, opt, star, plus}
+use borrow.Author.Tests.{ne-eqb, ltb-true, ltb-false, le-leb, lt-leb}
+use lib.Dec.{leb, ltb, leb·zero}
+use lib.ListN.{length}
+use Rattle.paper.specs.Expressions.{Expr, name, seq, alt, opt, star, plus, names}
+use Rattle.paper.specs.Basics.{between, all}
 use Rattle.paper.specs.Schema.{symbolsOf, symbol, fed, exprsOf, only, exprOf}
+use Rattle.basic_laws.specs.Numbers.{five}
+use Rattle.paper_laws.specs.Basics.{all-append}
+
+pub symbols-some : (e : Expr) → 1 ≤ length (symbolsOf e)
+symbols-some (name a) = omega arith
+symbols-some (seq e f) = omega arith
+symbols-some (alt e f) = omega arith
+symbols-some (opt e) = omega arith
+symbols-some (star e) = omega arith
+symbols-some (plus e) = omega arith
 
 abbrev pushed : Expr → Option (List Expr) → Option (List Expr)
 pushed e none = none
@@ -44,7 +58,7 @@ push-both : (e f : Expr) (r : List ℕ) → exprsOf (symbolsOf e ++ (symbolsOf f
 push-both e f r p q = ap exprsOf (append-assoc (symbolsOf e) (symbolsOf f) r) ∙ p ∙ ap (pushed e) q
 
 -- the symbols of e, before others, give e, before theirs
-pub exprs-push : (e : Expr) (r : List ℕ) → exprsOf (symbolsOf e ++ r) ≡ pushed e (exprsOf r)
+exprs-push : (e : Expr) (r : List ℕ) → exprsOf (symbolsOf e ++ r) ≡ pushed e (exprsOf r)
 exprs-push (name a) r = symbol-name a (exprsOf r)
 exprs-push (seq e f) r = ap (fed 0) (push-both e f r (exprs-push e (symbolsOf f ++ r)) (exprs-push f r)) ∙ pushed-two e f (exprsOf r) .0
 exprs-push (alt e f) r = ap (fed 1) (push-both e f r (exprs-push e (symbolsOf f ++ r)) (exprs-push f r)) ∙ pushed-two e f (exprsOf r) .1
@@ -53,12 +67,9 @@ exprs-push (star e) r = ap (fed 3) (exprs-push e r) ∙ pushed-one e (exprsOf r)
 exprs-push (plus e) r = ap (fed 4) (exprs-push e r) ∙ pushed-one e (exprsOf r) .2
 
 -- the symbols of several expressions
-abbrev pub symbolsOfAll : List Expr → List ℕ
+abbrev symbolsOfAll : List Expr → List ℕ
 symbolsOfAll [] = []
 symbolsOfAll (e ∷ es) = symbolsOf e ++ symbolsOfAll es
-
-five : (a : ℕ) → 5 + a ≡ suc (suc (suc (suc (suc a))))
-five a = omega arith
 
 symbol-back : (s : ℕ) (es fs : List Expr) → symbol s es ≡ some fs → s ∷ symbolsOfAll es ≡ symbolsOfAll fs
 unfolding symbol
@@ -84,7 +95,7 @@ fed-back : (s : ℕ) (r : List ℕ) (o : Option (List Expr)) (fs : List Expr) �
 fed-back s r none fs h c = let z : _≡_ {A = ℕ} 0 1 = cc in absurd (omega arith)
 fed-back s r (some es) fs h c = ap (λ l. s ∷ l) (h es refl) ∙ symbol-back s es fs c
 
-pub exprs-back : (w : List ℕ) (es : List Expr) → exprsOf w ≡ some es → w ≡ symbolsOfAll es
+exprs-back : (w : List ℕ) (es : List Expr) → exprsOf w ≡ some es → w ≡ symbolsOfAll es
 exprs-back [] es c = let d : es ≡ [] = cc in rw d
 exprs-back (s ∷ r) fs c = fed-back s r (exprsOf r) fs (λ es d. exprs-back r es d) c
 
@@ -101,3 +112,28 @@ exprOf-iff w e = (
   λ c. sym (exprs-back w (e ∷ []) (only-back (exprsOf w) e c) ∙ append-nil (symbolsOf e)),
   λ c. ap (λ s. only (exprsOf s)) (sym c ∙ sym (append-nil (symbolsOf e))) ∙ ap only (exprs-push e []),
 )
+
+-- ---- symbols in range, and names below E
+
+module _ (E : ℕ) where
+  name-range : (a : ℕ) → between 0 (4 + E) (5 + a) ≡ ltb a E
+  name-range a = rw (leb·zero (5 + a)) (go (ltb a E) refl)
+    where
+      go : (b : Bool) → ltb a E ≡ b → leb (5 + a) (4 + E) ≡ b
+      go true p = let q = ltb-true a E p in le-leb (5 + a) (4 + E) (omega arith)
+      go false p = let q = ltb-false a E p in lt-leb (5 + a) (4 + E) (omega arith)
+
+  abbrev Same : List ℕ → List ℕ → Type 0
+  Same symbols l = all (between 0 (4 + E)) symbols ≡ all (λ a. ltb a E) l
+
+  both-names : (l m : List ℕ) (p q : List ℕ) → Same l p → Same m q → Same (l ++ m) (p ++ q)
+  both-names l m p q x y = rw (all-append (between 0 (4 + E)) l m, all-append (λ a. ltb a E) p q, x, y)
+
+  -- the symbols of e are in the range of E elements exactly if e's names are below E
+  pub range-names : (e : Expr) → all (between 0 (4 + E)) (symbolsOf e) ≡ all (λ a. ltb a E) (names e)
+  range-names (name a) = rw name-range
+  range-names (seq e f) = rw (le-leb 0 (4 + E) (omega arith)) (both-names (symbolsOf e) (symbolsOf f) (names e) (names f) (range-names e) (range-names f))
+  range-names (alt e f) = rw (le-leb 1 (4 + E) (omega arith)) (both-names (symbolsOf e) (symbolsOf f) (names e) (names f) (range-names e) (range-names f))
+  range-names (opt e) = rw (le-leb 2 (4 + E) (omega arith)) (range-names e)
+  range-names (star e) = rw (le-leb 3 (4 + E) (omega arith)) (range-names e)
+  range-names (plus e) = rw (le-leb 4 (4 + E) (omega arith)) (range-names e)

@@ -4,9 +4,9 @@ use mathlib.Core.Logic.{_⊎_, inl, inr}
 use mathlib.Core.Bool.{_&&_}
 use native.Mathlib.Omega.{arith}
 use lib.Dec.{T, eqb→eq}
-use Rattle.content_laws.specs.Tools.{or-iff, or3-iff, and-iff}
 use Rattle.paper.specs.Expressions.{Expr, name, seq, alt, opt, star, plus, count}
 use Rattle.paper.specs.Sets.{first, last, follow}
+use Rattle.basic_laws.specs.Tests.{or-iff, or3-iff, and-iff}
 
 -- k is one of the n numbers from b on
 pub record Within (b n k : ℕ) : Type 0 where

@@ -1,43 +1,14 @@
 -- Sets as words. Bit k of a word says whether k is in the set, so that `|` is union, and the sets of an expression of at most
 -- 64 occurrences fit a u64. Assumes nothing.
-use mathlib.Core.Path.{_≡_, refl}
-use mathlib.Core.Bool.{Bool, true, false, _&&_, _||_}
-use Prim.Native.Nat.{ℕ, zero, suc, _+_, _/_, _%_, _^_, _≤_, _<_, max}
-use native.Mathlib.Nat.{mul-add-mod-self-right, mul-mod-left, mul-div-mul-right, mod-lt, zero-div, div-one, div-eq-of-lt, pow-suc}
+use mathlib.Core.Path.{_≡_}
+use mathlib.Core.Bool.{Bool, true, false}
+use Prim.Native.Nat.{ℕ, _+_, _^_, _≤_, _<_}
 use native.Mathlib.Omega.{arith}
-use lib.Dec.{eqb, eqb·zero-suc, eqb·suc-zero, eqb·suc-suc, lit<}
 use lib.Pow.{pow-lt, pow-pos}
-use lib.Bits.{bitOr, or-shr, or-step, or-lt}
+use lib.Bits.{or-lt}
 use Rattle.paper.specs.Expressions.{Expr, name, seq, alt, opt, star, plus, count}
 use Rattle.paper.specs.Sets.{nullable, first, last, follow, bit, when, firstWord, lastWord, followWord}
-
-bit-max : (x y : ℕ) → x < 2 → y < 2 → eqb (max x y % 2) 1 ≡ (eqb x 1 || eqb y 1)
-bit-max zero zero i j = refl
-bit-max zero (suc zero) i j = refl
-bit-max (suc zero) zero i j = refl
-bit-max (suc zero) (suc zero) i j = refl
-bit-max zero (suc (suc y)) i j = absurd (omega arith)
-bit-max (suc zero) (suc (suc y)) i j = absurd (omega arith)
-bit-max (suc (suc x)) y i j = absurd (omega arith)
-
-pub bit-or : (v w k : ℕ) → bit (bitOr v w) k ≡ (bit v k || bit w k)
-bit-or v w k =
-    rw (or-shr v w k, or-step (v / 2 ^ k) (w / 2 ^ k), mul-add-mod-self-right)
-    (bit-max (v / 2 ^ k % 2) (w / 2 ^ k % 2) (mod-lt _ (lit< tt)) (mod-lt _ (lit< tt)))
-
-pub bit-zero : (k : ℕ) → bit 0 k ≡ false
-bit-zero k = rw zero-div
-
--- the word with the one bit j
-pub bit-one : (j k : ℕ) → bit (2 ^ j) k ≡ eqb k j
-bit-one zero zero = refl
-bit-one zero (suc k) = rw (div-eq-of-lt (pow-lt {i = 0} {j = suc k} (omega arith)), eqb·suc-zero)
-bit-one (suc j) zero = rw (div-one, pow-suc, mul-mod-left, eqb·zero-suc j)
-bit-one (suc j) (suc k) = rw (pow-suc 2 j, pow-suc 2 k, mul-div-mul-right (2 ^ j) (2 ^ k) (lit< tt), eqb·suc-suc) (bit-one j k)
-
-pub bit-when : (c : Bool) (w k : ℕ) → bit (when c w) k ≡ (c && bit w k)
-bit-when true w k = refl
-bit-when false w k = bit-zero k
+use Rattle.paper_laws.specs.Words.{bit-or, bit-zero, bit-one, bit-when}
 
 -- ---- Glushkov's sets as words
 

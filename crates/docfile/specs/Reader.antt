@@ -1,4 +1,4 @@
--- The passes of the reader: decoding into an array, and copying. Assumes nothing.
+-- The reader: decoding into an array, and copying. Assumes nothing.
 use mathlib.Core.Path.{_≡_, refl, sym, ap, _∙_}
 use mathlib.Core.List.{List, [], _∷_, _++_, append-nil}
 use Prim.Native.Nat.{ℕ, suc, _+_, _-_, _≤_, _<_, min}
@@ -6,7 +6,8 @@ use native.Mathlib.Omega.{arith}
 use native.Mathlib.Nat.{sub-zero}
 use native.Mathlib.Numerals.{add-one}
 use lib.ListN.{length, take, drop, set, getD, length-take, length-set, drop-of-length-le}
-use lib.Seq.{drop-cons, take-suc, take-suc-set, length-take-le, set-at, append-snoc}
+use lib.Seq.{paste, drop-cons, take-suc-set, length-take-le, append-snoc}
+use Rattle.copying.specs.Left.{copied-front}
 use Rattle.paper.specs.Basics.{mostTokens}
 use Rattle.paper.specs.Files.{Result, refused, made, put, tokensIn, reading, counted, read}
 use Rattle.numbers.specs.At.{numAt, Stands, at-got, at-broken}
@@ -110,54 +111,29 @@ module _ (file before : List ℕ) (room : ℕ) where
                 same = c .same ∙ rw (z, tokens-next (room - (n + 1)) (drop at file) v (drop next file) (told .reads), s) (after-put (take n got) v (tokensIn (room - (n + 1)) (drop next file)));
               }
 
--- ---- copying
-
--- the first i of the tokens stand in the first places; those behind them are as before
-pub record Copying (from before : List ℕ) (n i : ℕ) (to : List ℕ) : Type 0 where
-  pub few : i ≤ n
-  pub long : length to ≡ length before
-  pub same : to ≡ take i from ++ drop i before
-
-module _ (from before : List ℕ) (n : ℕ) where
-  pub copy-none : Copying from before n 0 before
-  copy-none = record { few = omega arith; long = refl; same = refl }
-
-  module _ {i : ℕ} {to : List ℕ} (c : Copying from before n i to) where
-    pub copy-end : n ≤ i → to ≡ take n from ++ drop n before
-    copy-end h = let z : n ≡ i = omega (arith, c .few) in rw z (c .same)
-
-    pub copy-more : i < n → n ≤ length from → n ≤ length before → Copying from before n (i + 1) (set to i (getD from i 0))
-    copy-more h k l =
-        let d : drop i before ≡ getD before i 0 ∷ drop (suc i) before = drop-cons before i 0 (omega arith) in
-        let t : length (take i from) ≡ i = length-take-le i from (omega arith) in
-        record {
-          few = omega arith;
-          long = simp length-set (c .long);
-          same =
-              rw (c .same, d, add-one, take-suc from i 0 (omega arith), set-at (take i from) (getD before i 0) (drop (suc i) before) (getD from i 0) i t)
-              (sym (append-snoc (take i from) (getD from i 0) (drop (suc i) before)));
-        }
-
 -- ---- both
 
 -- the tokens that were read have places where they were decoded ..
-pub read-held : (r : Result) {c : Count} {got : List ℕ} → Decoded r c got → c .count ≤ length got
+pub read-held : (r : Result) {c : Count} {got : List ℕ} → Decoded r c got → 0 + c .count ≤ length got
 read-held (refused k) d = rw (d .answers) (omega arith)
 read-held (made l) {c} {got} d = omega (arith, ap (λ a. a .count) (d .answers), ap length (d .tokens), length-take (c .count) got)
 
 module _ (file buffer : List ℕ) {room : ℕ} (e : room ≡ min (length buffer) mostTokens) {c : Count} {got : List ℕ} (d : Decoded (tokensIn room file) c got) where
   -- .. and in the lent buffer
-  pub read-fits : c .count ≤ length buffer
+  pub read-fits : 0 + c .count ≤ length buffer
   read-fits = rw (d .answers) (go (tokensIn room file) refl)
     where
-      go : (r : Result) → tokensIn room file ≡ r → tally r .count ≤ length buffer
+      go : (r : Result) → tokensIn room file ≡ r → 0 + tally r .count ≤ length buffer
       go (refused k) p = omega arith
       go (made l) p = omega (arith, tokens-made room file l p .1)
 
-  pub read-is : {now : List ℕ} → now ≡ take (c .count) got ++ drop (c .count) buffer → outcome c now ≡ read file buffer
+  pub read-is : {now : List ℕ} → now ≡ paste buffer 0 (drop 0 got) (c .count) → outcome c now ≡ read file buffer
   unfolding read reading
-  read-is {now} q = rw (← e) (go (tokensIn room file) d)
+  read-is {now} p = rw (← e) (go (tokensIn room file) d)
     where
+      q : now ≡ take (c .count) got ++ drop (c .count) buffer
+      q = copied-front buffer got (c .count) p
+
       go : (r : Result) → Decoded r c got → outcome c now ≡ counted r buffer
       go (refused k) d = rw (q, d .answers)
       go (made l) d = rw (q, d .tokens, d .answers)

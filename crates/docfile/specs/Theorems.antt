@@ -9,21 +9,6 @@ use Rattle.paper.specs.Files.{fileOf, Result, refused, made, Counted, counted, 
 use Rattle.numbers.specs.Laws.{bytes}
 use Rattle.docfile.specs.Done.{content, ReadDone, read-done, file-back, reads, WriteDone, write-done, same-tokens, writes}
 
--- ---- each call
-
-kept : (r : Result) (buffer : List ℕ) → drop (counted r buffer .count) (counted r buffer .buffer) ≡ drop (counted r buffer .count) buffer
-kept (refused k) buffer = refl
-kept (made l) buffer = drop-append-seam l (drop (length l) buffer)
-
--- The places of the buffer from the count on keep their contents.
-pub read-keeps : (file buffer : List ℕ) (o : Counted) → o ≡ read file buffer → drop (o .count) (o .buffer) ≡ drop (o .count) buffer
-unfolding read
-read-keeps file buffer o e = rw e (kept (reading file buffer) buffer)
-
-pub write-keeps : (tokens buffer : List ℕ) (o : Counted) → o ≡ write tokens buffer → drop (o .count) (o .buffer) ≡ drop (o .count) buffer
-unfolding write
-write-keeps tokens buffer o e = rw e (kept (writing tokens buffer) buffer)
-
 -- ---- there and back
 
 -- Reading a file and writing the tokens read: where both calls are done, the bytes written are those of the file, and as many.

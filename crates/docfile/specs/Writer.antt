@@ -1,25 +1,19 @@
 -- The passes of the writer. Assumes nothing.
-use mathlib.Core.Path.{_≡_, refl, sym, _∙_}
-use mathlib.Core.Bool.{Bool, true, false}
+use mathlib.Core.Path.{_≡_, refl, sym, ap, _∙_}
+use mathlib.Core.Bool.{Bool, true, false, not, _&&_, and-true, and-assoc, and-eq-true-iff}
 use mathlib.Core.List.{List, [], _∷_}
-use Prim.Native.Nat.{ℕ, _+_, _*_, _≤_, _<_, max}
+use Prim.Native.Nat.{ℕ, _+_, _*_, _≤_, _<_}
 use native.Mathlib.Omega.{arith}
 use native.Mathlib.Numerals.{add-one}
-use borrow.Author.Tests.{lt-ltb, le-ltb, leb-true, le-leb, lt-leb}
+use borrow.Author.Tests.{lt-ltb, le-ltb, leb-true, le-leb, lt-leb, not-true, not-false}
 use lib.Dec.{leb}
 use lib.ListN.{length, drop, getD, length-append, drop-of-length-le}
-use lib.Seq.{drop-cons, length-sets}
+use lib.Seq.{drop-cons, sets, length-sets}
 use Rattle.paper.specs.Basics.{mostTokens, all}
 use Rattle.paper.specs.Files.{largest, bytesOf, fileOf, writing, write}
-use Rattle.numbers.specs.Laws.{and-parts}
-use Rattle.numbers.specs.Store.{Storable, Stored, most-wide}
+use Rattle.numbers.specs.Store.{Storable, stored, most-wide}
 use Rattle.docfile.specs.declared.Count.{Count}
 use Rattle.docfile.specs.Outcome.{outcome, answer, laid, lay-none, lay-more}
-
--- the largest of a list; 0 where there is none
-abbrev pub highestOf : List ℕ → ℕ
-highestOf [] = 0
-highestOf (t ∷ l) = max t (highestOf l)
 
 -- no token is too large
 abbrev pub small : List ℕ → Bool
@@ -37,19 +31,22 @@ module _ (tokens : List ℕ) where
   token : (i : ℕ) → i < length tokens → drop i tokens ≡ getD tokens i 0 ∷ drop (i + 1) tokens
   token i h = rw add-one (drop-cons tokens i 0 h)
 
-  -- the largest, where h is the largest of the first i
-  pub record Seeking (i h : ℕ) : Type 0 where
+  -- the first i are small, or not; the others are asked
+  pub record Seeking (i : ℕ) (fine : Bool) : Type 0 where
     pub within : i ≤ length tokens
-    pub same : highestOf tokens ≡ max h (highestOf (drop i tokens))
+    pub same : small tokens ≡ (fine && small (drop i tokens))
 
-  pub seek-none : Seeking 0 0
-  seek-none = record { within = omega arith; same = omega arith }
+  pub seek-none : Seeking 0 true
+  seek-none = record { within = omega arith; same = refl }
 
-  pub seek-more : {i h r : ℕ} → Seeking i h → i < length tokens → r ≡ max h (getD tokens i 0) → Seeking (i + 1) r
-  seek-more {i} {h} c l e = record { within = omega arith; same = c .same ∙ rw (token i l) (omega (arith, e)) }
+  pub seek-more : {i : ℕ} {fine : Bool} → Seeking i fine → i < length tokens → Seeking (i + 1) (fine && leb (getD tokens i 0) largest)
+  seek-more {i} {fine} c l = record {
+    within = omega arith;
+    same = c .same ∙ rw (token i l) (sym (and-assoc fine (leb (getD tokens i 0) largest) (small (drop (i + 1) tokens))));
+  }
 
-  pub seek-end : {i h : ℕ} → Seeking i h → length tokens ≤ i → h ≡ highestOf tokens
-  seek-end c l = sym (c .same ∙ rw (drop-of-length-le tokens l) (omega arith))
+  pub seek-end : {i : ℕ} {fine : Bool} → Seeking i fine → length tokens ≤ i → fine ≡ small tokens
+  seek-end {fine = fine} c l = sym (c .same ∙ rw (drop-of-length-le tokens l) (and-true fine))
 
   -- the bytes of all tokens, where those of the first i are n
   pub record Adding (i n : ℕ) : Type 0 where
@@ -95,41 +92,25 @@ module _ (tokens before : List ℕ) where
       sizes = omega (arith, length-append (bytesOf (getD tokens i 0)) (fileOf (drop (i + 1) tokens)), rw (token tokens i h) at (c .room))
 
       parts : (leb (getD tokens i 0) largest ≡ true) × (small (drop (i + 1) tokens) ≡ true)
-      parts = and-parts (leb (getD tokens i 0) largest) (small (drop (i + 1) tokens)) (rw (token tokens i h) at (c .fit))
+      parts = and-eq-true-iff (leb (getD tokens i 0) largest) (small (drop (i + 1) tokens)) .0 (rw (token tokens i h) at (c .fit))
 
       pub store-fits : Storable file at (getD tokens i 0)
       store-fits = record { small = leb-true (getD tokens i 0) largest (parts .0); room = omega (arith, sizes) }
 
-      pub store-more : {next : ℕ} {after : List ℕ} → Stored file at (getD tokens i 0) next after → Storing tokens before next (i + 1) after
-      store-more {after = after} s =
-          let n : length after ≡ length file = rw (s .bytes) (length-sets file at (bytesOf (getD tokens i 0))) in
+      pub store-more : {next : ℕ} {after : List ℕ} → (next, after) ≡ stored file at (getD tokens i 0) → Storing tokens before next (i + 1) after
+      store-more {next} {after} s =
+          let place : next ≡ at + length (bytesOf (getD tokens i 0)) = ap (λ (o : ℕ × List ℕ). o .0) s in
+          let put : after ≡ sets file at (bytesOf (getD tokens i 0)) = ap (λ (o : ℕ × List ℕ). o .1) s in
+          let n : length after ≡ length file = rw put (length-sets file at (bytesOf (getD tokens i 0))) in
           record {
             within = omega arith;
             long = n ∙ c .long;
-            room = omega (arith, n, sizes, s .place);
+            room = omega (arith, n, sizes);
             fit = parts .1;
-            same = c .same ∙ rw (token tokens i h, s .place, s .bytes) (lay-more at file (bytesOf (getD tokens i 0)) (fileOf (drop (i + 1) tokens)) (store-fits .room));
+            same = c .same ∙ rw (token tokens i h, place, put) (lay-more at file (bytesOf (getD tokens i 0)) (fileOf (drop (i + 1) tokens)) (store-fits .room));
           }
 
 -- ---- the answers
-
--- the tokens are small exactly if the largest is
-small-highest : (l : List ℕ) → highestOf l ≤ largest → small l ≡ true
-small-highest [] h = refl
-small-highest (t ∷ l) h = rw (le-leb t largest (omega arith)) (small-highest l (omega arith))
-
-highest-small : (l : List ℕ) → small l ≡ true → highestOf l ≤ largest
-highest-small [] e = omega arith
-highest-small (t ∷ l) e =
-    let (a, b) = and-parts (leb t largest) (small l) e in
-    omega (arith, leb-true t largest a, highest-small l b)
-
-large-highest : (l : List ℕ) → largest < highestOf l → small l ≡ false
-large-highest l h = go (small l) refl
-  where
-    go : (b : Bool) → small l ≡ b → small l ≡ false
-    go true p = absurd (omega (arith, highest-small l p))
-    go false p = p
 
 pub file-long : (l : List ℕ) → length (fileOf l) ≤ 3 * length l
 file-long [] = omega arith
@@ -140,20 +121,23 @@ module _ (tokens buffer : List ℕ) where
   unfolding write writing
   write-many h q = rw (q, lt-ltb mostTokens (length tokens) h)
 
-  module _ (few : length tokens ≤ mostTokens) {h : ℕ} (e : h ≡ highestOf tokens) where
-    pub write-large : {r : Count} → largest < h → r ≡ answer 4 0 → outcome r buffer ≡ write tokens buffer
+  module _ (few : length tokens ≤ mostTokens) {s : Bool} (e : s ≡ small tokens) where
+    pub write-large : {r : Count} → not s ≡ true → r ≡ answer 4 0 → outcome r buffer ≡ write tokens buffer
     unfolding write writing
-    write-large l q = rw (q, le-ltb mostTokens (length tokens) few, large-highest tokens (omega arith))
+    write-large l q = rw (q, le-ltb mostTokens (length tokens) few, sym e ∙ not-true s l)
 
-    module _ (l : h ≤ largest) {n : ℕ} (c : n ≡ length (fileOf tokens)) where
+    module _ (l : not s ≡ false) {n : ℕ} (c : n ≡ length (fileOf tokens)) where
+      fit : small tokens ≡ true
+      fit = sym e ∙ not-false s l
+
       pub write-full : {a : Count} → length buffer < n → a ≡ answer 5 0 → outcome a buffer ≡ write tokens buffer
       unfolding write writing
-      write-full r q = rw (q, le-ltb mostTokens (length tokens) few, small-highest tokens (omega arith), lt-leb (length (fileOf tokens)) (length buffer) (omega arith))
+      write-full r q = rw (q, le-ltb mostTokens (length tokens) few, fit, lt-leb (length (fileOf tokens)) (length buffer) (omega arith))
 
       module _ (r : n ≤ length buffer) where
         pub write-ready : Ready tokens buffer
-        write-ready = record { fit = small-highest tokens (omega arith); room = omega arith }
+        write-ready = record { fit = fit; room = omega arith }
 
         pub write-done : {after : List ℕ} → after ≡ laid 0 (fileOf tokens) buffer → outcome (answer 0 n) after ≡ write tokens buffer
         unfolding write writing
-        write-done a = rw (le-ltb mostTokens (length tokens) few, small-highest tokens (omega arith), le-leb (length (fileOf tokens)) (length buffer) (omega arith), a, c)
+        write-done a = rw (le-ltb mostTokens (length tokens) few, fit, le-leb (length (fileOf tokens)) (length buffer) (omega arith), a, c)

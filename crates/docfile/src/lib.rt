@@ -4,20 +4,26 @@
 // own and copies; the writer first goes over its tokens without writing. Nothing is asked of either slice. The document's tree is not
 // judged.
 // Assumes nothing.
+use copying::copy_tokens;
 use numbers::Num;
 use numbers::number_at;
 use numbers::put_number;
 use numbers::width;
+use paper::BROKEN;
+use paper::DONE;
+use paper::MOST_TOKENS;
+use paper::MOST_VALUE;
+use paper::ROOM;
+use paper::SHAPE;
 ghost use mathlib.Core.Path.{_≡_};
-ghost use mathlib.Core.List.{_++_};
-ghost use Prim.Native.Nat.{_≤_, max, min};
-ghost use lib.ListN.{length, take, drop};
+ghost use Prim.Native.Nat.{_≤_, min};
+ghost use lib.ListN.{length};
 ghost use Rattle.paper.specs.Basics.{mostTokens};
 ghost use Rattle.paper.specs.Files.{fileOf, tokensIn};
 ghost use Rattle.paper.specs.Files;
 ghost use Rattle.docfile.specs.Outcome.{outcome, answer, laid};
 ghost use Rattle.docfile.specs.Reader.{Roomy, Decoded};
-ghost use Rattle.docfile.specs.Writer.{highestOf, Ready};
+ghost use Rattle.docfile.specs.Writer.{small, Ready};
 
 // The answer's number, 0 when done, and how many tokens were read or bytes written.
 pub struct Count {
@@ -43,11 +49,11 @@ fn decode(file: &[u8], got: &mut [u32], room: usize) -> Count
     while at < file.len() {
         match number_at(file, at) {
             Num::Broken => {
-                return refusal(1);
+                return refusal(BROKEN);
             }
             Num::Got { value, next } => {
                 if held == room {
-                    return refusal(5);
+                    return refusal(ROOM);
                 }
                 got[held] = value;
                 held += 1;
@@ -56,20 +62,8 @@ fn decode(file: &[u8], got: &mut [u32], room: usize) -> Count
         }
     }
     Count {
-        number: 0,
+        number: DONE,
         count: held as u32,
-    }
-}
-
-// The first n tokens of one slice go into the first places of another.
-fn copy(from: &[u32], to: &mut [u32], n: usize)
-    requires { ⌜ (n ≤ length (now from)) × (n ≤ length (now to)) ⌝ }
-    ensures { λ _. ⌜ now (to .exit) ≡ take n (now (from .entry)) ++ drop n (now (to .entry)) ⌝ }
-{
-    let mut i: usize = 0;
-    while i < n {
-        to[i] = from[i];
-        i += 1;
     }
 }
 
@@ -77,10 +71,10 @@ fn copy(from: &[u32], to: &mut [u32], n: usize)
 fn places(len: usize) -> usize
     ensures { λ r. ⌜ r ≡ min len mostTokens ⌝ }
 {
-    if len < 8192 {
+    if len < MOST_TOKENS {
         return len;
     }
-    8192
+    MOST_TOKENS
 }
 
 // Reads the file by way of `got`, which has a place for every token that may come.
@@ -91,7 +85,7 @@ fn read_by(file: &[u8], tokens: &mut [u32], got: &mut [u32]) -> Count
     let room = places(tokens.len());
     let c = decode(file, got, room);
     let n = c.count as usize;
-    copy(got, tokens, n);
+    copy_tokens(tokens, 0, got, 0, n);
     c
 }
 
@@ -106,31 +100,21 @@ pub fn read(file: &[u8], tokens: &mut [u32]) -> Count
         let mut few = [0u32; SHORT];
         return read_by(file, tokens, &mut few);
     }
-    let mut many = [0u32; paper::MOST_TOKENS];
+    let mut many = [0u32; MOST_TOKENS];
     read_by(file, tokens, &mut many)
 }
 
-// The larger of two tokens.
-fn larger(a: u32, b: u32) -> u32
-    ensures { λ r. ⌜ r ≡ max a b ⌝ }
+// Whether no token is too large.
+fn all_small(tokens: &[u32]) -> bool
+    ensures { λ r. ⌜ r ≡ small (now (tokens .entry)) ⌝ }
 {
-    if a < b {
-        return b;
-    }
-    a
-}
-
-// The largest token; 0 where there is none.
-fn highest(tokens: &[u32]) -> u32
-    ensures { λ r. ⌜ r ≡ highestOf (now (tokens .entry)) ⌝ }
-{
-    let mut h: u32 = 0;
+    let mut fine = true;
     let mut i: usize = 0;
     while i < tokens.len() {
-        h = larger(h, tokens[i]);
+        fine = fine & (tokens[i] <= MOST_VALUE);
         i += 1;
     }
-    h
+    fine
 }
 
 // How many bytes the tokens take.
@@ -163,19 +147,20 @@ fn put_bytes(tokens: &[u32], file: &mut [u8])
 pub fn write(tokens: &[u32], file: &mut [u8]) -> Count
     ensures { λ r. ⌜ outcome r (now (file .exit)) ≡ Files.write (now (tokens .entry)) (now (file .entry)) ⌝ }
 {
-    if tokens.len() > 8192 {
-        return refusal(5);
+    if tokens.len() > MOST_TOKENS {
+        return refusal(ROOM);
     }
-    if highest(tokens) > 2097151 {
-        return refusal(4);
+    if !all_small(tokens) {
+        return refusal(SHAPE);
     }
     let n = count_bytes(tokens);
     if n > file.len() {
-        return refusal(5);
+        return refusal(ROOM);
     }
     put_bytes(tokens, file);
+    let count = n as u32;
     Count {
-        number: 0,
-        count: n as u32,
+        number: DONE,
+        count,
     }
 }

@@ -1,6 +1,6 @@
 -- The answer with what it leaves, as the paper's outcome. Assumes nothing.
 use mathlib.Core.Path.{_≡_, refl, sym, ap, ap₂, _∙_}
-use mathlib.Core.Bool.{Bool, true, false, not, _&&_}
+use mathlib.Core.Bool.{Bool, true, false, not, _&&_, and-eq-true-iff}
 use mathlib.Core.List.{List}
 use Prim.Native.Nat.{ℕ, zero, suc, _+_, _-_, _≤_}
 use native.Mathlib.Omega.{arith}
@@ -20,8 +20,9 @@ use Rattle.paper.specs.Edits.{Request, spliceAt, spliceCut, coming, edited, tou
 use Rattle.shape_laws.specs.EditJudged.{Asked, form-iff, allowed-by}
 use Rattle.keys.specs.declared.Fault.{Fault}
 use Rattle.edits.specs.declared.Answer.{Answer}
-use Rattle.edits.specs.declared.Form.{Form}
-use Rattle.edits.specs.Form.{Formed, shaped, and-parts, allowed-within, size-is}
+use Rattle.form.specs.declared.Form.{Form}
+use Rattle.form.specs.Size.{size-is}
+use Rattle.form.specs.Form.{Formed, shaped, allowed-within}
 use Rattle.edits.specs.Written.{splice-front}
 use Rattle.shape_laws.specs.ShapeTurns.{length-toks}
 
@@ -36,7 +37,6 @@ refusal number place used = record { number = number; place = place; used = used
 
 pub record Ready (buf : List ℕ) (used : ℕ) (r : Form) (after : List ℕ) : Type 0 where
   pub old : used ≤ mostTokens
-  pub in-buffer : used ≤ length buf
   pub few : r .used ≤ mostTokens
   pub room : r .used ≤ length buf
   pub long : r .used ≤ length after
@@ -47,7 +47,7 @@ module _ (op place : ℕ) (piece buf : List ℕ) (used : ℕ) where
   abbrev q : Request
   q = record { operation = op; place = place; piece = piece }
 
-  pub form-ready : {r : Form} {after : List ℕ} → shapeOf buf used ≡ true → Formed (length buf) q (take used buf) r after → r .number ≡ 0 → Ready buf used r after
+  form-ready : {r : Form} {after : List ℕ} → shapeOf buf used ≡ true → Formed (length buf) q (take used buf) r after → r .number ≡ 0 → Ready buf used r after
   unfolding edited
   form-ready {r} {after} sh f z =
       let s = shaped buf used sh in
@@ -59,8 +59,8 @@ module _ (op place : ℕ) (piece buf : List ℕ) (used : ℕ) where
       (allowed-by (toks (take used buf)) (toks piece) (s .one) op place (a .operation) (a .piece) (a .place)) in
       let u : length (toks (take used buf)) ≡ used = length-toks buf used (s .long) in
       let size : length new ≡ used - cut + length (coming op piece) = size-is buf used at cut (coming op piece) (omega arith) (s .long) in
-      let (most, room) = and-parts (leb (length new) mostTokens && shallow (toks new)) (leb (length new) (length buf)) (a .size) in
-      let (few, _) = and-parts (leb (length new) mostTokens) (shallow (toks new)) most in
+      let (most, room) = and-eq-true-iff (leb (length new) mostTokens && shallow (toks new)) (leb (length new) (length buf)) .0 (a .size) in
+      let (few, _) = and-eq-true-iff (leb (length new) mostTokens) (shallow (toks new)) .0 most in
       let few = leb-true (length new) mostTokens few in
       let room = leb-true (length new) (length buf) room in
       let n = f .size z in
@@ -69,7 +69,6 @@ module _ (op place : ℕ) (piece buf : List ℕ) (used : ℕ) where
       let t = ap length (f .tokens z) in
       record {
         old = s .few;
-        in-buffer = s .long;
         few = omega arith;
         room = omega arith;
         long = omega (arith, length-take (r .used) after);

@@ -23,7 +23,7 @@ touchedFirst table doc used at n = first (elementFault (ofTable table)) startPla
 
 -- ---- the parent
 
-pub parent-is : (a : List Tok) → parentOf a < length a → parent a (parentOf a) ≡ true
+parent-is : (a : List Tok) → parentOf a < length a → parent a (parentOf a) ≡ true
 unfolding parentOf
 parent-is [] h = absurd (omega arith)
 parent-is (t ∷ a) h = go (parent-is a) (starts t && balanced a) refl h
@@ -33,7 +33,7 @@ parent-is (t ∷ a) h = go (parent-is a) (starts t && balanced a) refl h
     go ih true f h = f
     go ih false f h = ih (omega arith)
 
-pub parent-no : (a : List Tok) → length a ≤ parentOf a → (i : ℕ) → parent a i ≡ false
+parent-no : (a : List Tok) → length a ≤ parentOf a → (i : ℕ) → parent a i ≡ false
 unfolding parentOf
 parent-no [] h zero = refl
 parent-no [] h (suc i) = refl

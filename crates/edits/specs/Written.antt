@@ -6,7 +6,6 @@ use native.Mathlib.Omega.{arith}
 use lib.ListN.{length, take, drop, getD, set, replicate, length-set, length-drop, length-replicate, getD-replicate}
 use lib.Seq.{paste, paste-zero, paste-suc, take-paste, drop-paste, take-length, take-take, take-add, take-at, drop-drop, length-take-le}
 use Rattle.paper.specs.Edits.{splice, written}
-use Rattle.shape_laws.specs.Move.{copy-turn}
 
 abbrev pub zeros : ℕ → List ℕ
 zeros n = replicate n 0
@@ -17,36 +16,6 @@ length-zeros n = length-replicate n 0
 -- zeros from a place up to another
 abbrev pub cleared : List ℕ → ℕ → ℕ → List ℕ
 cleared b from to = paste b from (zeros (to - from)) (to - from)
-
--- ---- the copy, up to place i
-
-pub record Putting (b s : List ℕ) (at end : ℕ) (now : List ℕ) (i : ℕ) : Type 0 where
-  pub low : at ≤ i
-  pub high : i ≤ end
-  pub long : length now ≡ length b
-  pub left : now ≡ paste b at (drop at s) (i - at)
-
-module _ (b s : List ℕ) (at end : ℕ) where
-  pub putting-begin : at ≤ end → Putting b s at end b at
-  putting-begin h =
-      let z : at - at ≡ 0 = omega arith in
-      record { low = omega arith; high = h; long = refl; left = rw z (paste-zero b at (drop at s)) }
-
-  module _ (now : List ℕ) (i : ℕ) (lb : end ≤ length b) (ls : end ≤ length s) (c : Putting b s at end now i) where
-    pub putting-turn : i < end → Putting b s at end (set now i (getD s i 0)) (i + 1)
-    putting-turn h =
-        let k : at + (i - at) ≡ i = omega arith in
-        let n : i + 1 - at ≡ i - at + 1 = omega arith in
-        let e : set now (at + (i - at)) (getD s (at + (i - at)) 0) ≡ paste b at (drop at s) (i - at + 1) = copy-turn b at s at (i - at) (omega arith) (omega arith) (c .left) in
-        record {
-          low = omega arith;
-          high = omega arith;
-          long = simp length-set (c .long);
-          left = rw k at e ∙ ap (paste b at (drop at s)) (sym n);
-        }
-
-    pub putting-out : end ≤ i → now ≡ paste b at (drop at s) (end - at)
-    putting-out h = let z : end ≡ i = omega arith in rw z (c .left)
 
 -- ---- the zeros, up to place i
 

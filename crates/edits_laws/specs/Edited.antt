@@ -1,6 +1,6 @@
 -- An edit in form of a document that is a tree's tokens makes the tokens of the tree that the edit rules make of it. Assumes nothing.
 use mathlib.Core.Path.{_≡_, refl, sym, ap, _∙_}
-use mathlib.Core.Bool.{true, not, _||_}
+use mathlib.Core.Bool.{true, not, _||_, and-eq-true-iff}
 use mathlib.Core.List.{List, [], _∷_, _++_}
 use Prim.Native.Nat.{ℕ, zero, suc, _+_, _≤_}
 use native.Mathlib.Omega.{arith}
@@ -18,10 +18,10 @@ use Rattle.paper.specs.Shape.{isElement}
 use Rattle.paper.specs.Trees.{Given, Forest, nil, txt, elem, flatA, flat, IsTree}
 use Rattle.paper.specs.Edits.{Request, isText, goodItem, attrWith, someValues, goodPiece, opens, opensOrEnds, atHead, attrNumber, attrAt, attrCut, goodPlace, spliceAt, spliceCut, coming, splice, edited}
 use Rattle.paper.specs.TreeEdits.{Hole, fill, placeOf, One, text, element, setGiven, dropGiven, TreeEdit, insert, remove, replace, set, drop as drop-attribute}
-use Rattle.shape_laws.specs.Local.{clash}
+use Rattle.basic_laws.specs.Bools.{clash}
 use Rattle.shape_laws.specs.Tree.{shape-tree}
 use Rattle.shape_laws.specs.EditJudged.{Asked, edited-toks}
-use Rattle.edits_laws.specs.Pieces.{both, Item, good-item, set-piece, drop-piece}
+use Rattle.edits_laws.specs.Pieces.{Item, good-item, set-piece, drop-piece}
 use Rattle.edits_laws.specs.Places.{after, after-shut, Stands, find}
 use Rattle.edits_laws.specs.Splices.{splice-cons, splice-row, drop-row, one-before, one-cut, heldIn, attrSplice, set-splice, drop-splice}
 
@@ -85,7 +85,7 @@ element-at d t i s = go (item-at d t i (start-opens (drop i d) s))
 -- ---- the edits
 
 at-most : (op : ℕ) → between 1 5 op ≡ true → op ≤ 5
-at-most op b = leb-true op 5 (both (leb 1 op) (leb op 5) b .1)
+at-most op b = leb-true op 5 (and-eq-true-iff (leb 1 op) (leb op 5) .0 b .1)
 
 insert-splice : (h : Hole) (f : Forest) (d p : List Tok) (i : ℕ) → d ≡ flat (fill h f) [] → i ≡ placeOf h → (m : Item p)
     → splice i 0 p d ≡ flat (fill h (m .make f)) []
@@ -156,15 +156,15 @@ module _ (q : Request) (d : List Tok) (t : IsTree d) where
   unfolding goodPiece goodPlace
   made zero o b g s = clash b refl
   made (suc zero) o b g s =
-      let m = good-item p (both (leb (length p) mostTokens) (goodItem p) g .1) in
-      let (h, f, w, a) = find d t i (both (atHead opensOrEnds (drop i d)) (ltb 0 i) s .0) in
+      let m = good-item p (and-eq-true-iff (leb (length p) mostTokens) (goodItem p) .0 g .1) in
+      let (h, f, w, a) = find d t i (and-eq-true-iff (atHead opensOrEnds (drop i d)) (ltb 0 i) .0 s .0) in
       (fill h f, fill h (m .make f), w, insert o (m .one) (m .tokens) h f a, insert-splice h f d p i w a m)
   made (suc (suc zero)) o b g s =
-      let x = item-at d t i (both (atHead opens (drop i d)) (ltb 0 i) s .0) in
+      let x = item-at d t i (and-eq-true-iff (atHead opens (drop i d)) (ltb 0 i) .0 s .0) in
       (fill (x .hole) (x .make (x .next)), fill (x .hole) (x .next), x .tokens, remove o (x .one) (x .hole) (x .next) (x .at), item-splice d [] i x (x .next) refl)
   made (suc (suc (suc zero))) o b g s =
-      let m = good-item p (both (leb (length p) mostTokens) (goodItem p) g .1) in
-      let x = item-at d t i (both (atHead opens (drop i d)) (ltb 0 i || not (isText p)) s .0) in
+      let m = good-item p (and-eq-true-iff (leb (length p) mostTokens) (goodItem p) .0 g .1) in
+      let x = item-at d t i (and-eq-true-iff (atHead opens (drop i d)) (ltb 0 i || not (isText p)) .0 s .0) in
       let y : List Tok = after (x .hole) [] in (
         fill (x .hole) (x .make (x .next)),
         fill (x .hole) (m .make (x .next)),
@@ -173,7 +173,7 @@ module _ (q : Request) (d : List Tok) (t : IsTree d) where
         item-splice d p i x (m .make (x .next)) (ap (λ z. z ++ flat (x .next) y) (m .tokens) ∙ sym (one-before (m .one) (x .next) y)),
       )
   made (suc (suc (suc (suc zero)))) o b g s =
-      let (v, e) = set-piece p (both (leb (length p) mostTokens) (attrWith someValues p) g .1) in
+      let (v, e) = set-piece p (and-eq-true-iff (leb (length p) mostTokens) (attrWith someValues p) .0 g .1) in
       let x = element-at d t i s in (
         fill (x .hole) (elem (x .name) (x .attributes) (x .content) (x .next)),
         fill (x .hole) (elem (x .name) (setGiven v (x .attributes)) (x .content) (x .next)),
@@ -182,8 +182,8 @@ module _ (q : Request) (d : List Tok) (t : IsTree d) where
         set-edit d p i x v e,
       )
   made (suc (suc (suc (suc (suc zero))))) o b g s =
-      let (a, e) = drop-piece p (both (leb (length p) mostTokens) (attrWith null p) g .1) in
-      let (c, k) = both (isStart (drop i d)) (ltb 0 (attrCut (attrNumber p) i d)) s in
+      let (a, e) = drop-piece p (and-eq-true-iff (leb (length p) mostTokens) (attrWith null p) .0 g .1) in
+      let (c, k) = and-eq-true-iff (isStart (drop i d)) (ltb 0 (attrCut (attrNumber p) i d)) .0 s in
       let x = element-at d t i c in (
         fill (x .hole) (elem (x .name) (x .attributes) (x .content) (x .next)),
         fill (x .hole) (elem (x .name) (dropGiven a (x .attributes)) (x .content) (x .next)),

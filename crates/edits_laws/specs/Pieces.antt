@@ -1,6 +1,6 @@
 -- The piece of an edit, as a part of a tree. Assumes nothing.
-use mathlib.Core.Path.{_≡_, refl, ap}
-use mathlib.Core.Bool.{Bool, true, false, not, _&&_, _||_}
+use mathlib.Core.Path.{_≡_, refl, ap, _∙_}
+use mathlib.Core.Bool.{Bool, true, false, not, _&&_, _||_, and-eq-true-iff}
 use mathlib.Core.List.{List, [], _∷_}
 use Prim.Native.Nat.{ℕ, pred}
 use native.Mathlib.Omega.{arith}
@@ -15,12 +15,9 @@ use Rattle.paper.specs.Shape.{isElement, shallow}
 use Rattle.paper.specs.Trees.{Given, Forest, nil, txt, elem, flatV, flatA, flat}
 use Rattle.paper.specs.Edits.{isText, goodItem, attrWith, someValues}
 use Rattle.paper.specs.TreeEdits.{One, text, element}
-use Rattle.shape_laws.specs.Local.{clash}
+use Rattle.basic_laws.specs.Bools.{clash}
 use Rattle.shape_laws.specs.Tree.{shape-tree}
-
-pub both : (a b : Bool) → a && b ≡ true → (a ≡ true) × (b ≡ true)
-both true b e = (refl, e)
-both false b e = clash e refl
+use Rattle.shape_laws.specs.EditJudged.{text-is, attr-is}
 
 -- p is one text or one element
 pub record Item (p : List Tok) : Type 0 where
@@ -28,23 +25,13 @@ pub record Item (p : List Tok) : Type 0 where
   pub one : One make
   pub tokens : p ≡ flat (make nil) []
 
-text-item : (p : List Tok) → isText p ≡ true → Item p
-text-item [] e = clash e refl
-text-item (Text n ∷ []) e = record { make = txt n; one = text n; tokens = refl }
-text-item (Text n ∷ x ∷ p) e = clash e refl
-text-item (Start n ∷ p) e = clash e refl
-text-item (End ∷ p) e = clash e refl
-text-item (Attr n ∷ p) e = clash e refl
-text-item (Value n ∷ p) e = clash e refl
-text-item (Bad ∷ p) e = clash e refl
-
 pub good-item : (p : List Tok) → goodItem p ≡ true → Item p
 good-item p h = go (isText p) refl h
   where
     go : (b : Bool) → isText p ≡ b → b || (isElement p && shallow p) ≡ true → Item p
-    go true t h = text-item p t
+    go true t h = let (n, f) = text-is p t in record { make = txt n; one = text n; tokens = f }
     go false t h =
-        let f = shape-tree p (both (isElement p) (shallow p) h .0) in
+        let f = shape-tree p (and-eq-true-iff (isElement p) (shallow p) .0 h .0) in
         record { make = elem (f .name) (f .attributes) (f .content); one = element (f .name) (f .attributes) (f .content); tokens = f .tokens }
 
 values-flat : (l : List Tok) → values l ≡ length l → (vs : List ℕ) × (l ≡ flatV vs [])
@@ -57,26 +44,18 @@ values-flat (Text n ∷ l) e = absurd (omega arith)
 values-flat (Bad ∷ l) e = absurd (omega arith)
 
 pub set-piece : (p : List Tok) → attrWith someValues p ≡ true → (g : Given) × (p ≡ flatA (g ∷ []) [])
-set-piece [] e = clash e refl
-set-piece (Attr a ∷ p) e =
-    let (n, l) = both (not (null p)) (eqb (values p) (length p)) e in
-    go (values-flat p (eqb-true (values p) (length p) l)) n
+set-piece p e =
+    let (a, r, f, v) = attr-is someValues p e in
+    let (n, l) = and-eq-true-iff (not (null r)) (eqb (values r) (length r)) .0 v in
+    go a r f (values-flat r (eqb-true (values r) (length r) l)) n
   where
-    go : (vs : List ℕ) × (p ≡ flatV vs []) → not (null p) ≡ true → (g : Given) × (Attr a ∷ p ≡ flatA (g ∷ []) [])
-    go ([], f) n = clash (rw f at n) refl
-    go (v ∷ vs, f) n = (record { name = a; value = v; more = vs }, ap (λ z. Attr a ∷ z) f)
-set-piece (Start n ∷ p) e = clash e refl
-set-piece (End ∷ p) e = clash e refl
-set-piece (Text n ∷ p) e = clash e refl
-set-piece (Value n ∷ p) e = clash e refl
-set-piece (Bad ∷ p) e = clash e refl
+    go : (a : ℕ) (r : List Tok) → p ≡ Attr a ∷ r → (vs : List ℕ) × (r ≡ flatV vs []) → not (null r) ≡ true → (g : Given) × (p ≡ flatA (g ∷ []) [])
+    go a r e ([], f) n = clash (rw f at n) refl
+    go a r e (v ∷ vs, f) n = (record { name = a; value = v; more = vs }, e ∙ ap (λ z. Attr a ∷ z) f)
 
 pub drop-piece : (p : List Tok) → attrWith null p ≡ true → (a : ℕ) × (p ≡ Attr a ∷ [])
-drop-piece [] e = clash e refl
-drop-piece (Attr a ∷ []) e = (a, refl)
-drop-piece (Attr a ∷ t ∷ p) e = clash e refl
-drop-piece (Start n ∷ p) e = clash e refl
-drop-piece (End ∷ p) e = clash e refl
-drop-piece (Text n ∷ p) e = clash e refl
-drop-piece (Value n ∷ p) e = clash e refl
-drop-piece (Bad ∷ p) e = clash e refl
+drop-piece p e = go (attr-is null p e)
+  where
+    go : (a : ℕ) × (r : List Tok) × (p ≡ Attr a ∷ r) × (null r ≡ true) → (a : ℕ) × (p ≡ Attr a ∷ [])
+    go (a, [], f, n) = (a, f)
+    go (a, t ∷ r, f, n) = clash n refl

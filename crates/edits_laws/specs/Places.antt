@@ -11,7 +11,7 @@ use Rattle.paper.specs.declared.Tok.the-variants.{Start, End, Text, Value}
 use Rattle.paper.specs.Trees.{Given, Forest, nil, txt, elem, flatV, flatA, flat, IsTree}
 use Rattle.paper.specs.Edits.{opens, opensOrEnds, atHead}
 use Rattle.paper.specs.TreeEdits.{Hole, here, past-text, past-element, inside, fill, placeOf}
-use Rattle.shape_laws.specs.Local.{clash}
+use Rattle.basic_laws.specs.Bools.{clash}
 
 -- ---- the tokens of a part, and what comes after it
 

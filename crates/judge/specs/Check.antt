@@ -1,8 +1,8 @@
 -- The whole check, from what its parts answer. Assumes nothing.
 use mathlib.Core.Path.{_≡_, refl, sym, ap, _∙_}
-use mathlib.Core.Bool.{Bool, true, false, not}
+use mathlib.Core.Bool.{Bool, true, false, not, and-eq-true-iff}
 use mathlib.Core.List.{List, _∷_}
-use Prim.Native.Nat.{ℕ, _≤_}
+use Prim.Native.Nat.{ℕ, _/_, _≤_}
 use native.Mathlib.Omega.{arith}
 use borrow.Author.Tests.{leb-true, eq-eqb, ne-eqb, not-true, not-false}
 use lib.Dec.{leb}
@@ -10,46 +10,43 @@ use lib.ListN.{length, take, drop, getD}
 use Rattle.paper.specs.declared.Tok.{Tok}
 use Rattle.paper.specs.declared.Tok.the-variants.{Start, End, Text, Attr, Value, Bad}
 use Rattle.paper.specs.Basics.{mostTokens}
-use Rattle.paper.specs.Tokens.{tokOf, toks}
+use Rattle.paper.specs.Tokens.{tokOf, toks, starts}
 use Rattle.paper.specs.Shape.{shapeOf, isElement, shallow}
 use Rattle.paper.specs.Table.{proper}
 use Rattle.paper.specs.Rules.{ofTable}
 use Rattle.paper.specs.Judgement.{Answer, before, elementFault, first, startPlace, whole, rootFault, keyFault, judge, checking, check}
-use Rattle.sets.specs.Laws.{and-parts}
+use Rattle.basic_laws.specs.Bools.{clash}
 use Rattle.shape_laws.specs.Ends.{rest-next}
+use Rattle.tokens.specs.Theorems.{start-iff}
 use Rattle.keys.specs.declared.Fault.{Fault}
 use Rattle.judge.specs.Elements.{found, firstIn, first-whole}
 
 -- ---- the root
 
-module _ (table doc : List ℕ) (used : ℕ) (l : used ≤ length doc) where
-  pub root-none : used ≡ 0 → (0, 0) ≡ rootFault (ofTable table) (toks (take used doc))
-  root-none e = rw e
+module _ (table doc : List ℕ) (used : ℕ) (l : used ≤ length doc) (some : used ≡ 0 → ⊥) {y : Bool} (ey : y ≡ starts (tokOf (getD doc 0 0))) where
+  next : rootFault (ofTable table) (toks (take used doc)) ≡ rootFault (ofTable table) (tokOf (getD doc 0 0) ∷ drop 1 (toks (take used doc)))
+  next = ap (rootFault (ofTable table)) (rest-next doc used 0 (omega arith) l)
 
-  module _ (some : used ≡ 0 → ⊥) {t : Tok} (et : t ≡ tokOf (getD doc 0 0)) where
-    next : toks (take used doc) ≡ t ∷ drop 1 (toks (take used doc))
-    next = rest-next doc used 0 (omega arith) l ∙ ap (λ x. x ∷ drop 1 (toks (take used doc))) (sym et)
+  pub root-unknown : not y ≡ true → (0, 0) ≡ rootFault (ofTable table) (toks (take used doc))
+  root-unknown n = sym (next ∙ none (tokOf (getD doc 0 0)) (sym ey ∙ not-true y n))
+    where
+      none : (x : Tok) → starts x ≡ false → rootFault (ofTable table) (x ∷ drop 1 (toks (take used doc))) ≡ (0, 0)
+      none (Start n) s = clash refl s
+      none End s = refl
+      none (Text n) s = refl
+      none (Attr n) s = refl
+      none (Value n) s = refl
+      none Bad s = refl
 
-    pub root-same : {n : ℕ} → t ≡ Start n → n ≡ getD table 1 0 → (0, 0) ≡ rootFault (ofTable table) (toks (take used doc))
-    root-same {n} e q = rw (next, e, eq-eqb n (getD table 1 0) q)
+  module _ (n : not y ≡ false) {r : ℕ} (er : r ≡ getD doc 0 0 / 8) where
+    named : rootFault (ofTable table) (toks (take used doc)) ≡ rootFault (ofTable table) (Start r ∷ drop 1 (toks (take used doc)))
+    named = rw er (rw (start-iff (getD doc 0 0) .0 (sym ey ∙ not-false y n)) at next)
 
-    pub root-other : {n : ℕ} → t ≡ Start n → (n ≡ getD table 1 0 → ⊥) → (10, 0) ≡ rootFault (ofTable table) (toks (take used doc))
-    root-other {n} e q = rw (next, e, ne-eqb n (getD table 1 0) q)
+    pub root-same : r ≡ getD table 1 0 → (0, 0) ≡ rootFault (ofTable table) (toks (take used doc))
+    root-same q = sym (rw (eq-eqb r (getD table 1 0) q) at named)
 
-    pub root-end : t ≡ End → (0, 0) ≡ rootFault (ofTable table) (toks (take used doc))
-    root-end e = rw (next, e)
-
-    pub root-text : {n : ℕ} → t ≡ Text n → (0, 0) ≡ rootFault (ofTable table) (toks (take used doc))
-    root-text e = rw (next, e)
-
-    pub root-attribute : {n : ℕ} → t ≡ Attr n → (0, 0) ≡ rootFault (ofTable table) (toks (take used doc))
-    root-attribute e = rw (next, e)
-
-    pub root-value : {n : ℕ} → t ≡ Value n → (0, 0) ≡ rootFault (ofTable table) (toks (take used doc))
-    root-value e = rw (next, e)
-
-    pub root-bad : t ≡ Bad → (0, 0) ≡ rootFault (ofTable table) (toks (take used doc))
-    root-bad e = rw (next, e)
+    pub root-other : (r ≡ getD table 1 0 → ⊥) → (10, 0) ≡ rootFault (ofTable table) (toks (take used doc))
+    root-other q = sym (rw (ne-eqb r (getD table 1 0) q) at named)
 
 -- ---- the judgement of a document with shape, where the first fault among the elements that are judged is known
 
@@ -95,10 +92,10 @@ pub shape-fits : (doc : List ℕ) (used : ℕ) {y : Bool} → y ≡ shapeOf doc 
 unfolding shapeOf
 shape-fits doc used {y} e h =
     let d : List Tok = toks (take used doc) in
-    let (s, _) = and-parts _ (shallow d) (sym e ∙ not-false y h) in
-    let (s, _) = and-parts _ (isElement d) s in
-    let (s, long) = and-parts _ (leb used (length doc)) s in
-    let (_, few) = and-parts (leb 2 used) (leb used mostTokens) s in
+    let (s, _) = and-eq-true-iff _ (shallow d) .0 (sym e ∙ not-false y h) in
+    let (s, _) = and-eq-true-iff _ (isElement d) .0 s in
+    let (s, long) = and-eq-true-iff _ (leb used (length doc)) .0 s in
+    let (_, few) = and-eq-true-iff (leb 2 used) (leb used mostTokens) .0 s in
     record { few = leb-true used mostTokens few; long = leb-true used (length doc) long }
 
 pub is-proper : (table : List ℕ) {y : Bool} → y ≡ proper table → not y ≡ false → proper table ≡ true

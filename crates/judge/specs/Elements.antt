@@ -2,7 +2,7 @@
 use mathlib.Core.Path.{_≡_, refl, sym, ap, _∙_}
 use mathlib.Core.Bool.{Bool, true, false, cond, not, _&&_}
 use mathlib.Core.List.{List, [], _∷_}
-use Prim.Native.Nat.{ℕ, zero, suc, _+_, _≤_, _<_}
+use Prim.Native.Nat.{ℕ, zero, suc, _+_, _/_, _≤_, _<_}
 use native.Mathlib.Nat.{add-zero, zero-add, add-suc, suc-add}
 use native.Mathlib.Numerals.{add-one}
 use native.Mathlib.Omega.{arith}
@@ -11,13 +11,15 @@ use lib.Dec.{leb, ltb}
 use lib.ListN.{length, take, drop, getD, drop-of-length-le}
 use Rattle.paper.specs.declared.Tok.{Tok}
 use Rattle.paper.specs.declared.Tok.the-variants.{Start, End, Text, Attr, Value, Bad}
-use Rattle.paper.specs.Tokens.{tokOf, toks, heads, kids}
+use Rattle.paper.specs.Tokens.{tokOf, toks, heads, kids, starts}
 use Rattle.paper.specs.Rules.{ofTable}
 use Rattle.paper.specs.Judgement.{Answer, none-found, orElse, contentGood, elementFault, faultAt, first, startPlace, whole}
+use Rattle.basic_laws.specs.Bools.{clash}
 use Rattle.shape_laws.specs.Ends.{rest-next}
 use Rattle.shape_laws.specs.ShapeTurns.{length-toks}
-use Rattle.judge.specs.declared.Front.{Front}
-use Rattle.judge.specs.Attributes.{Judged}
+use Rattle.attributes.specs.declared.Front.{Front}
+use Rattle.attributes.specs.Attributes.{Judged}
+use Rattle.tokens.specs.Theorems.{start-iff}
 
 -- ---- one element
 
@@ -55,27 +57,24 @@ module _ (table doc : List ℕ) (used i : ℕ) (l : used ≤ length doc) where
   pub number-past : used ≤ i → 0 ≡ numberAt table doc used i
   number-past h = rw (drop-of-length-le (toks (take used doc)) {i = i} (omega (arith, length-toks doc used l)))
 
-  module _ (h : i < used) {t : Tok} (et : t ≡ tokOf (getD doc i 0)) where
-    next : drop i (toks (take used doc)) ≡ t ∷ drop (suc i) (toks (take used doc))
-    next = rest-next doc used i h l ∙ ap (λ x. x ∷ drop (suc i) (toks (take used doc))) (sym et)
+  module _ (h : i < used) {y : Bool} (ey : y ≡ starts (tokOf (getD doc i 0))) where
+    next : numberAt table doc used i ≡ faultAt (elementFault (ofTable table)) (tokOf (getD doc i 0) ∷ drop (suc i) (toks (take used doc)))
+    next = ap (faultAt (elementFault (ofTable table))) (rest-next doc used i h l)
 
-    pub number-start : {e r : ℕ} → t ≡ Start e → r ≡ faultFrom table e doc used (i + 1) → r ≡ numberAt table doc used i
-    number-start e er = rw (next, e) (rw add-one at er)
+    pub number-start : {e r : ℕ} → not y ≡ false → e ≡ getD doc i 0 / 8 → r ≡ faultFrom table e doc used (i + 1) → r ≡ numberAt table doc used i
+    number-start n ee er =
+        rw (add-one, ee) at er ∙ sym (rw (start-iff (getD doc i 0) .0 (sym ey ∙ not-false y n)) at next)
 
-    pub number-end : t ≡ End → 0 ≡ numberAt table doc used i
-    number-end e = rw (next, e)
-
-    pub number-text : {n : ℕ} → t ≡ Text n → 0 ≡ numberAt table doc used i
-    number-text e = rw (next, e)
-
-    pub number-attribute : {n : ℕ} → t ≡ Attr n → 0 ≡ numberAt table doc used i
-    number-attribute e = rw (next, e)
-
-    pub number-value : {n : ℕ} → t ≡ Value n → 0 ≡ numberAt table doc used i
-    number-value e = rw (next, e)
-
-    pub number-bad : t ≡ Bad → 0 ≡ numberAt table doc used i
-    number-bad e = rw (next, e)
+    pub number-other : not y ≡ true → 0 ≡ numberAt table doc used i
+    number-other n = sym (next ∙ none (tokOf (getD doc i 0)) (sym ey ∙ not-true y n))
+      where
+        none : (x : Tok) → starts x ≡ false → faultAt (elementFault (ofTable table)) (x ∷ drop (suc i) (toks (take used doc))) ≡ 0
+        none (Start n) s = clash refl s
+        none End s = refl
+        none (Text n) s = refl
+        none (Attr n) s = refl
+        none (Value n) s = refl
+        none Bad s = refl
 
 -- ---- the first fault
 
@@ -85,7 +84,7 @@ span low high i = leb low i && ltb i high
 
 module _ (fault : ℕ → List Tok → List Tok → ℕ) (given : ℕ → ℕ → List Tok → ℕ) (judged : ℕ → Bool) where
   -- places that are not judged are passed over
-  pub first-skip : (n i : ℕ) (d : List Tok) → ((j : ℕ) → j < n → judged (i + j) ≡ false) → first fault given judged i d ≡ first fault given judged (i + n) (drop n d)
+  first-skip : (n i : ℕ) (d : List Tok) → ((j : ℕ) → j < n → judged (i + j) ≡ false) → first fault given judged i d ≡ first fault given judged (i + n) (drop n d)
   first-skip zero i d f = rw add-zero
   first-skip (suc n) i [] f = refl
   first-skip (suc n) i (x ∷ d) f =

@@ -1,9 +1,5 @@
--- What the passes of a judgement go by, and their laws.
--- The attributes of one element
-pub mod Attributes
--- The children of one element
-pub mod Content
+-- What a judgement goes by, and its laws.
 -- One element, and the first fault among elements
 pub mod Elements
--- The whole check
+-- The root, and the whole check
 pub mod Check

@@ -17,8 +17,8 @@ use Rattle.paper.specs.Table.{ofKind, isRequired}
 use Rattle.paper.specs.Rules.{elementAt, has, ofSchema, undeclared}
 use Rattle.paper.specs.Judgement.{present, eachAttr, attributesGood}
 use Rattle.paper.specs.Validity.{AttributesValid}
-use Rattle.content_laws.specs.Tools.{and-iff, or-iff, or-l, or-r}
-use Rattle.judge_laws.specs.Connectives.{true-iff, and3-iff, imp-iff, every-iff, other, Each, each-nil, each-cons}
+use Rattle.basic_laws.specs.Tests.{and-iff, or-iff, or-l, or-r, true-iff}
+use Rattle.judge_laws.specs.Connectives.{and3-iff, imp-iff, every-iff, other, Each, each-nil, each-cons}
 
 -- ---- each attribute
 

@@ -11,13 +11,9 @@ use Rattle.paper.specs.declared.Tok.{Tok}
 use Rattle.paper.specs.declared.Tok.the-variants.{Start, End, Text, Attr, Value, Bad}
 use Rattle.paper.specs.Basics.{every}
 use Rattle.paper.specs.Judgement.{Answer, orElse, before}
-use Rattle.content_laws.specs.Tools.{and-iff}
+use Rattle.basic_laws.specs.Tests.{and-iff, true-iff}
 
 -- ---- tests
-
-pub true-iff : (b : Bool) → (b ≡ true) ↔ T b
-true-iff true = (λ e. tt, λ t. refl)
-true-iff false = (λ e. absurd (false≢true e), λ t. absurd t)
 
 pub and3-iff : (a b c : Bool) → T (a && b && c) ↔ (T a × T b × T c)
 and3-iff true true c = (λ t. (tt, tt, t), λ t. t .2)

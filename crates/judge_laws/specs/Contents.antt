@@ -16,8 +16,8 @@ use Rattle.paper.specs.Table.{kindNumber}
 use Rattle.paper.specs.Rules.{elementAt, describedBy, ofSchema}
 use Rattle.paper.specs.Judgement.{noText, named, oneText, contentGood}
 use Rattle.paper.specs.Validity.{ContentValid}
+use Rattle.basic_laws.specs.Tests.{and-iff}
 use Rattle.content_laws.specs.Matching.{matches-iff}
-use Rattle.content_laws.specs.Tools.{and-iff}
 
 -- ---- children are starts and texts
 

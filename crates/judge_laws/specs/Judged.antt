@@ -9,19 +9,20 @@ use lib.Dec.{T, leb, ltb, eqb, ltb→lt, lt→ltb}
 use lib.ListN.{length, take}
 use Rattle.paper.specs.declared.Tok.{Tok}
 use Rattle.paper.specs.declared.Tok.the-variants.{Start, End, Text, Attr, Value, Bad}
-use Rattle.paper.specs.Shape.{Body}
 use Rattle.paper.specs.Basics.{mostTokens}
-use Rattle.paper.specs.Tokens.{toks, heads, kids, isStart, endOf}
-use Rattle.paper.specs.Shape.{phases, isBody, isElement, shallow, shapeOf}
+use Rattle.paper.specs.Tokens.{toks, heads, kids, isStart}
+use Rattle.paper.specs.Shape.{isElement, shallow, shapeOf}
 use Rattle.paper.specs.Schema.{Schema}
 use Rattle.paper.specs.SchemaWritten.{formed}
 use Rattle.paper.specs.Rules.{Rules, ofSchema}
 use Rattle.paper.specs.Judgement.{none-found, attributesGood, contentGood, elementFault, faultAt, first, startPlace, rootFault, valueIn, idsOf, refsOf, repeated, dangling, judge, whole, checking}
 use Rattle.paper.specs.Validity.{ElementValid, Valid, ValidDocument}
-use Rattle.judge_laws.specs.Connectives.{true-iff, and3-iff, eqb-iff, else-iff, before-iff, pass-iff, fault-iff, other, Each, each-nil, each-cons}
+use Rattle.shape_laws.specs.Keep.{element-parts}
+use Rattle.basic_laws.specs.Tests.{true-iff}
+use Rattle.judge_laws.specs.Connectives.{and3-iff, eqb-iff, else-iff, before-iff, pass-iff, fault-iff, other, Each, each-nil, each-cons}
 use Rattle.judge_laws.specs.Attributes.{attributes-iff}
 use Rattle.judge_laws.specs.Contents.{content-iff}
-use Rattle.judge_laws.specs.Keys.{repeated-iff, dangling-iff}
+use Rattle.judge_laws.specs.Keys.{ids-iff, references-iff}
 
 -- ---- the elements
 
@@ -84,35 +85,35 @@ module _ (R : Rules) where
 -- ---- the theorems
 
 -- The judgement from the expressions finds no fault exactly in the valid documents.
-pub judged-valid : (s : Schema) → formed s ≡ true → (d : List Tok) → isStart d ≡ true
+pub judged-valid : (s : Schema) → formed s ≡ true → (d : List Tok) → isElement d ≡ true
     → (judge (ofSchema s) whole d .0 ≡ 0) ↔ Valid s d
 unfolding judge
 judged-valid s f d b =
     let R = ofSchema s in
+    let (begins, _, body) = element-parts d b in
     let ids = map valueIn (idsOf R d) in
     let (apart, joined) = before-iff (rootFault R d) (first (elementFault R) startPlace whole 0 d) (repeated [] (idsOf R d)) (dangling ids (refsOf R d)) in (
       λ e. let (p, q, r, t) = apart e in record {
-        root = root-iff R d b .0 p;
+        root = root-iff R d begins .0 p;
         elements = λ u v n c. element-iff s f n v .0 (first-iff (elementFault R) 0 d .0 q u v n c);
-        ids = repeated-iff (idsOf R d) .0 r;
-        references = dangling-iff ids (refsOf R d) .0 t;
+        ids = ids-iff s d body .0 r;
+        references = references-iff s d body .0 t;
       },
       λ v. joined (
-        root-iff R d b .1 (v .root),
+        root-iff R d begins .1 (v .root),
         first-iff (elementFault R) 0 d .1 (λ u r n c. element-iff s f n r .1 (v .elements u r n c)),
-        repeated-iff (idsOf R d) .1 (v .ids),
-        dangling-iff ids (refsOf R d) .1 (v .references),
+        ids-iff s d body .1 (v .ids),
+        references-iff s d body .1 (v .references),
       ),
     )
 
--- a document with shape begins with a start
-start-of : (buffer : List ℕ) (used : ℕ) → shapeOf buffer used ≡ true → isStart (toks (take used buffer)) ≡ true
-unfolding shapeOf isElement
-start-of buffer used e =
+-- a document with shape is one element
+element-of : (buffer : List ℕ) (used : ℕ) → shapeOf buffer used ≡ true → isElement (toks (take used buffer)) ≡ true
+unfolding shapeOf
+element-of buffer used e =
     let d = toks (take used buffer) in
     let sizes = leb 2 used && leb used mostTokens && leb used (length buffer) in
-    let t = and3-iff sizes (isElement d) (shallow d) .0 (true-iff (shapeOf buffer used) .0 e) .1 in
-    true-iff (isStart d) .1 (and3-iff (isStart d) (eqb (suc (endOf d zero)) (length d)) (isBody (phases Body d)) .0 t .0)
+    true-iff (isElement d) .1 (and3-iff sizes (isElement d) (shallow d) .0 (true-iff (shapeOf buffer used) .0 e) .1)
 
 -- With the test of shape before it, it finds none exactly in the buffers that hold a valid document.
 pub checked-valid : (s : Schema) → formed s ≡ true → (buffer : List ℕ) (used : ℕ)
@@ -122,6 +123,6 @@ checked-valid s f buffer used =
     let d = toks (take used buffer) in
     let (apart, joined) = pass-iff (shapeOf buffer used) (judge (ofSchema s) whole d) (4, 0) (omega arith) in
     let shape = true-iff (shapeOf buffer used) in (
-      λ e. let (p, q) = apart e in let h = shape .1 p in record { shape = h; valid = judged-valid s f d (start-of buffer used h) .0 q },
-      λ v. joined (shape .0 (v .shape), judged-valid s f d (start-of buffer used (v .shape)) .1 (v .valid)),
+      λ e. let (p, q) = apart e in let h = shape .1 p in record { shape = h; valid = judged-valid s f d (element-of buffer used h) .0 q },
+      λ v. joined (shape .0 (v .shape), judged-valid s f d (element-of buffer used (v .shape)) .1 (v .valid)),
     )

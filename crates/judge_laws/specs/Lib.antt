@@ -2,5 +2,7 @@
 pub mod Connectives
 pub mod Attributes
 pub mod Contents
+pub mod Values
+pub mod Stands
 pub mod Keys
 pub mod Judged

@@ -7,9 +7,9 @@ use Rattle.paper.specs.declared.Tok.{Tok}
 use Rattle.paper.specs.Rules.{ofTable}
 use Rattle.paper.specs.Judgement.{Answer, before, valueIn, idsOf, refsOf, repeated, dangling, keyFault}
 use Rattle.keys.specs.declared.Fault.{Fault}
-use Rattle.keys.specs.declared.Gathered.{Gathered}
-use Rattle.keys.specs.Key.{keyIn, keysIn, valuesIn}
-use Rattle.keys.specs.Gather.{Gathers}
+use Rattle.gather.specs.declared.Gathered.{Gathered}
+use Rattle.gather.specs.Key.{keyIn, keysIn, valuesIn}
+use Rattle.gather.specs.Gather.{Gathers}
 use Rattle.keys.specs.Compare.{answerOf}
 
 module _ (table : List ℕ) (d : List Tok) {ids refs : List ℕ} {g : Gathered} (c : Gathers table d ids refs g) {f : Fault}

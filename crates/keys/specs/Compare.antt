@@ -1,41 +1,25 @@
 -- The loops that compare keys by their values. Assumes nothing.
 use mathlib.Core.Path.{_≡_, refl, sym, ap, _∙_}
-use mathlib.Core.Bool.{Bool, true, false, not, _||_}
+use mathlib.Core.Bool.{Bool, true, false, not, _||_, or-comm, or-assoc}
 use mathlib.Core.List.{List, [], _∷_}
 use Prim.Native.Nat.{ℕ, zero, suc, _+_, _≤_, _<_}
 use native.Mathlib.Numerals.{add-one}
 use native.Mathlib.Omega.{arith}
-use borrow.Author.Tests.{eqb-true, eqb-false, eq-eqb, ne-eqb, not-true, not-false}
+use borrow.Author.Tests.{not-true, not-false}
 use lib.Dec.{eqb}
 use lib.ListN.{length, take, getD}
 use lib.Seq.{slice, slice-cons, slice-empty}
 use Rattle.paper.specs.Basics.{elem}
 use Rattle.paper.specs.Judgement.{Answer, repeated, dangling}
+use Rattle.basic_laws.specs.Numbers.{eqb-sym}
 use Rattle.keys.specs.declared.Fault.{Fault}
-use Rattle.keys.specs.Key.{keyPlace, keyValue, keysIn, valuesIn}
+use Rattle.gather.specs.Key.{keyPlace, keyValue, keysIn, valuesIn}
 
 abbrev pub faultOf : ℕ → ℕ → Fault
 faultOf number place = record { number = number; place = place }
 
 abbrev pub answerOf : Fault → Answer
 answerOf f = (f .number, f .place)
-
-or-swap : (a b : Bool) → (a || b) ≡ (b || a)
-or-swap true true = refl
-or-swap true false = refl
-or-swap false true = refl
-or-swap false false = refl
-
-or-assoc : (a b c : Bool) → ((a || b) || c) ≡ (a || (b || c))
-or-assoc true b c = refl
-or-assoc false b c = refl
-
-eqb-swap : (a b : ℕ) → eqb a b ≡ eqb b a
-eqb-swap a b = go (eqb a b) refl
-  where
-    go : (t : Bool) → eqb a b ≡ t → t ≡ eqb b a
-    go true e = sym (eq-eqb b a (sym (eqb-true a b e)))
-    go false e = sym (ne-eqb b a (λ q. eqb-false a b e (sym q)))
 
 -- ---- an ID that is met twice
 
@@ -62,7 +46,7 @@ pub compare-more : (ids : List ℕ) {i value j : ℕ} {found : Bool} → Compari
     → j < i → Comparing ids i value (j + 1) (found || eqb (keyValue (getD ids j 0)) value)
 compare-more ids {i} {value} {j} {found} c h = record {
   within = omega arith;
-  told = rw add-one (rw (or-swap found (eqb (keyValue (getD ids j 0)) value), eqb-swap (keyValue (getD ids j 0)) value)
+  told = rw add-one (rw (or-comm found (eqb (keyValue (getD ids j 0)) value), eqb-sym (keyValue (getD ids j 0)) value)
       (ap (λ b. eqb value (keyValue (getD ids j 0)) || b) (c .told)));
 }
 
@@ -107,12 +91,12 @@ module _ (ids : List ℕ) (from to value : ℕ) {found : Bool} {i : ℕ} (s : No
       let rest : Bool = elem value (valuesIn (slice (suc i) to ids)) in
       record {
         within = omega arith;
-        same = rw add-one (ap (λ b. (found || b) || rest) (eqb-swap k value) ∙ or-assoc found (eqb value k) rest
+        same = rw add-one (ap (λ b. (found || b) || rest) (eqb-sym k value) ∙ or-assoc found (eqb value k) rest
             ∙ rw (slice-cons i to ids 0 h g) at (s .same));
       }
 
   pub note-end : to ≤ i → found ≡ elem value (valuesIn (slice from to ids))
-  note-end h = let q : i ≡ to = omega (arith, s .within) in or-swap false found ∙ rw (q, slice-empty to ids) at (s .same)
+  note-end h = let q : i ≡ to = omega (arith, s .within) in or-comm false found ∙ rw (q, slice-empty to ids) at (s .same)
 
 -- ---- a value among the IDs
 

@@ -1,6 +1,3 @@
--- IDs and references: keys, the kinds of an element's attributes, and what the passes do.
-pub mod Key
-pub mod Kinds
-pub mod Gather
+-- What the loops that compare keys do, and the fault that they find.
 pub mod Compare
 pub mod Answer

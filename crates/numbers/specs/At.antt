@@ -1,17 +1,17 @@
 -- A number at a place of a list of bytes. Assumes nothing.
 use mathlib.Core.Path.{_≡_, refl, sym, ap, _∙_}
-use mathlib.Core.Bool.{Bool, true, false, cond}
+use mathlib.Core.Bool.{Bool, true, false, cond, and-eq-true-iff}
 use mathlib.Core.List.{List, [], _∷_}
 use mathlib.Core.Logic.{_↔_}
 use Prim.Native.Nat.{ℕ, suc, _+_, _-_, _*_, _≤_, _<_}
 use native.Mathlib.Omega.{arith}
-use native.Mathlib.Numerals.{add-one}
 use borrow.Author.Tests.{ltb-true, lt-ltb, le-ltb, eq-eqb, ne-eqb}
 use lib.Dec.{ltb, eqb}
 use lib.ListN.{length, drop, getD, length-drop, drop-of-length-le}
-use lib.Seq.{drop-cons, drop-drop}
+use lib.Seq.{drop-drop}
 use Rattle.paper.specs.Files.{largest, Front, broken, got, second, third, front}
-use Rattle.numbers.specs.Laws.{bytes, bytes-drop, and-parts, never}
+use Rattle.basic_laws.specs.Lists.{drop-next}
+use Rattle.numbers.specs.Laws.{bytes, bytes-drop, never}
 use Rattle.numbers.specs.declared.Num.{Num}
 use Rattle.numbers.specs.declared.Num.the-variants.{Broken, Got}
 
@@ -39,9 +39,6 @@ module _ (v : ℕ) where
   by-second = record { none = refl; some = λ b r. refl }
 
 module _ (s : List ℕ) (at : ℕ) where
-  byte : at < length s → drop at s ≡ getD s at 0 ∷ drop (at + 1) s
-  byte h = rw add-one (drop-cons s at 0 h)
-
   after : at < length s → length s - length (drop (at + 1) s) ≡ at + 1
   after h = rw length-drop (omega arith)
 
@@ -50,15 +47,15 @@ module _ {F : List ℕ → Front} {w v : ℕ} {more : ℕ → List ℕ → Front
   later-end h = rw (drop-of-length-le s h, f .none)
 
   pub later-zero : at < length s → getD s at 0 ≡ 0 → Broken ≡ placed (length s) (F (drop at s))
-  later-zero h z = rw (byte s at h, f .some, eq-eqb (getD s at 0) 0 z)
+  later-zero h z = rw (drop-next s at h, f .some, eq-eqb (getD s at 0) 0 z)
 
   pub later-last : at < length s → (getD s at 0 ≡ 0 → ⊥) → getD s at 0 < 128
       → Got (v + getD s at 0 * w) (at + 1) ≡ placed (length s) (F (drop at s))
-  later-last h z l = rw (byte s at h, f .some, ne-eqb (getD s at 0) 0 z, lt-ltb (getD s at 0) 128 l, after s at h)
+  later-last h z l = rw (drop-next s at h, f .some, ne-eqb (getD s at 0) 0 z, lt-ltb (getD s at 0) 128 l, after s at h)
 
   pub later-more : {r : Num} → at < length s → (getD s at 0 ≡ 0 → ⊥) → 128 ≤ getD s at 0
       → r ≡ placed (length s) (more (getD s at 0) (drop (at + 1) s)) → r ≡ placed (length s) (F (drop at s))
-  later-more h z l e = rw (byte s at h, f .some, ne-eqb (getD s at 0) 0 z, le-ltb (getD s at 0) 128 l) e
+  later-more h z l e = rw (drop-next s at h, f .some, ne-eqb (getD s at 0) 0 z, le-ltb (getD s at 0) 128 l) e
 
 module _ (s : List ℕ) (at : ℕ) where
   pub first-end : length s ≤ at → Broken ≡ numAt s at
@@ -67,11 +64,11 @@ module _ (s : List ℕ) (at : ℕ) where
 
   pub first-last : at < length s → getD s at 0 < 128 → Got (getD s at 0) (at + 1) ≡ numAt s at
   unfolding numAt front
-  first-last h l = rw (byte s at h, lt-ltb (getD s at 0) 128 l, after s at h)
+  first-last h l = rw (drop-next s at h, lt-ltb (getD s at 0) 128 l, after s at h)
 
   pub first-more : {r : Num} → at < length s → 128 ≤ getD s at 0 → r ≡ placed (length s) (second (getD s at 0 - 128) (drop (at + 1) s)) → r ≡ numAt s at
   unfolding numAt front
-  first-more h l e = rw (byte s at h, le-ltb (getD s at 0) 128 l) e
+  first-more h l e = rw (drop-next s at h, le-ltb (getD s at 0) 128 l) e
 
 -- ---- what an answer tells
 
@@ -116,7 +113,7 @@ module _ {n : ℕ} {r : List ℕ} where
   second-small : (v : ℕ) (s : List ℕ) → v < 128 → bytes s ≡ true → second v s ≡ got n r → n ≤ largest
   second-small v [] h l e = never e
   second-small v (b ∷ s) h l e =
-      let k : b < 256 = ltb-true b 256 (and-parts (ltb b 256) (bytes s) l .0) in
+      let k : b < 256 = ltb-true b 256 (and-eq-true-iff (ltb b 256) (bytes s) .0 l .0) in
       ends (eqb b 0) (ltb b 128) e (λ y p q. omega (arith, ltb-true b 128 y)) (λ y f. third-small (v + (b - 128) * 128) s (omega arith) f)
 
   -- The bytes of a number carry twenty-one bits.
@@ -124,7 +121,7 @@ module _ {n : ℕ} {r : List ℕ} where
   unfolding front
   front-small [] l e = never e
   front-small (a ∷ s) l e =
-      let (k, m) = and-parts (ltb a 256) (bytes s) l in
+      let (k, m) = and-eq-true-iff (ltb a 256) (bytes s) .0 l in
       ends false (ltb a 128) e (λ y p q. omega (arith, ltb-true a 128 y)) (λ y f. second-small (a - 128) s (omega (arith, ltb-true a 256 k)) m f)
 
 -- the number v stands at a place of s, and `next` is the place after it
@@ -134,7 +131,7 @@ pub record Stands (s : List ℕ) (at v next : ℕ) : Type 0 where
   pub within : next ≤ length s
 
 module _ (s : List ℕ) (at : ℕ) where
-  -- The answer `Got` is given only where the number stands ..
+  -- The answer `Got` is given only where the number stands.
   pub at-got : (v next : ℕ) → numAt s at ≡ Got v next → Stands s at v next
   unfolding numAt
   at-got v next e = go (front (drop at s)) refl e
@@ -148,11 +145,6 @@ module _ (s : List ℕ) (at : ℕ) where
           let d : drop (at + t .size) s ≡ r = sym (drop-drop (t .size) at s) ∙ t .rest in
           let a : at + t .size ≡ next = omega (arith, t .some, t .within, length-drop at s, length-drop (at + t .size) s, ap length d) in
           record { reads = rw (← a, d, ← k) p; on = omega (arith, t .some); within = omega (arith, t .some, t .within, length-drop at s) }
-
-  -- .. and wherever it stands.
-  pub got-at : (v next : ℕ) → next ≤ length s → front (drop at s) ≡ got v (drop next s) → numAt s at ≡ Got v next
-  unfolding numAt
-  got-at v next h e = rw e (ap (Got v) (omega (arith, length-drop next s)))
 
   -- The answer `Broken` is given exactly where no number stands.
   pub at-broken : (numAt s at ≡ Broken) ↔ (front (drop at s) ≡ broken)

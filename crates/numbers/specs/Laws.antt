@@ -1,6 +1,6 @@
 -- A number is read back from its bytes, and from nothing else. Assumes nothing.
 use mathlib.Core.Path.{_≡_, refl, sym, ap, ap₂, _∙_}
-use mathlib.Core.Bool.{Bool, true, false, cond, _&&_}
+use mathlib.Core.Bool.{Bool, true, false, cond, and-eq-true-iff}
 use mathlib.Core.List.{List, [], _∷_, _++_, map}
 use Prim.Native.Nat.{ℕ, zero, suc, _+_, _-_, _*_, _/_, _%_, _≤_, _<_}
 use native.Mathlib.Omega.{arith}
@@ -10,6 +10,7 @@ use lib.Dec.{leb, ltb, eqb}
 use lib.ListN.{length, drop, getD}
 use Rattle.paper.specs.Basics.{all, concat}
 use Rattle.paper.specs.Files.{largest, bytesOf, Front, broken, got, second, third, front, Result, refused, made, put, tokensIn}
+use Rattle.paper_laws.specs.Basics.{all-parts}
 use Rattle.numbers.specs.Store.{bytes-one, bytes-two, bytes-three}
 
 -- What is written is read: the bytes of a number are read as the number, whatever follows them.
@@ -43,15 +44,11 @@ front-bytes n r h = go (ltb n 128) (ltb n 16384) refl refl
 abbrev pub bytes : List ℕ → Bool
 bytes = all (λ b. ltb b 256)
 
-pub and-parts : (a b : Bool) → a && b ≡ true → (a ≡ true) × (b ≡ true)
-and-parts true b e = (refl, e)
-and-parts false b e = let z : _≡_ {A = ℕ} 0 1 = cc in absurd (omega arith)
-
 -- what stands behind a place of bytes are bytes
 pub bytes-drop : (k : ℕ) (s : List ℕ) → bytes s ≡ true → bytes (drop k s) ≡ true
 bytes-drop zero s h = h
 bytes-drop (suc k) [] h = h
-bytes-drop (suc k) (b ∷ s) h = bytes-drop k s (and-parts (ltb b 256) (bytes s) h .1)
+bytes-drop (suc k) (b ∷ s) h = bytes-drop k s (and-eq-true-iff (ltb b 256) (bytes s) .0 h .1)
 
 -- the elements of a slice of u8 are bytes
 pub slice-bytes : (s : List ℕ) → ((i : ℕ) → getD s i 0 < 256) → bytes s ≡ true
@@ -105,7 +102,7 @@ module _ (n : ℕ) (r : List ℕ) where
           let d : a - 128 + b * 128 ≡ n = cc in
           let f : t ≡ r = cc in
           rw (← d, two-bytes a b ha ka (ltb-true b 128 q) (eqb-false b 0 p)) (ap (λ l. a ∷ b ∷ l) f)
-      go false false p q e = third-back a b t ha ka (ltb-false b 128 q) (ltb-true b 256 (and-parts (ltb b 256) (bytes t) h .0)) e
+      go false false p q e = third-back a b t ha ka (ltb-false b 128 q) (ltb-true b 256 (and-eq-true-iff (ltb b 256) (bytes t) .0 h .0)) e
 
   -- What is read was written so: `front` takes a number off only where its bytes stand.
   pub bytes-front : (s : List ℕ) → bytes s ≡ true → front s ≡ got n r → s ≡ bytesOf n ++ r
@@ -119,7 +116,7 @@ module _ (n : ℕ) (r : List ℕ) where
           let f : t ≡ r = cc in
           rw (← d, bytes-one a (ltb-true a 128 p)) (ap (λ l. a ∷ l) f)
       go false p e =
-          let (k, l) = and-parts (ltb a 256) (bytes t) h in
+          let (k, l) = and-eq-true-iff (ltb a 256) (bytes t) .0 h in
           second-back a t (ltb-false a 128 p) (ltb-true a 256 k) l e
 
 -- ---- a file, a number at a time
@@ -149,7 +146,7 @@ pub tokens-back : (l : List ℕ) (room : ℕ) → all (λ t. leb t largest) l �
 tokens-back [] room a h = tokens-end room
 tokens-back (x ∷ l) zero a h = absurd (not-suc-le-zero h)
 tokens-back (x ∷ l) (suc room) a h =
-    let (small, rest) = and-parts (leb x largest) (all (λ t. leb t largest) l) a in
+    let (small, rest) = and-eq-true-iff (leb x largest) (all (λ t. leb t largest) l) .0 a in
     tokens-next room (bytesOf x ++ concat (map bytesOf l)) x (concat (map bytesOf l)) (front-bytes x (concat (map bytesOf l)) (leb-true x largest small))
     ∙ ap (put x) (tokens-back l room rest (le-of-suc-le-suc h))
 
@@ -197,13 +194,9 @@ tokens-made (suc room) (b ∷ s) l e =
     let (h, k) = tokens-made room (f .rest) (f .others) (f .later) in
     rw (f .all-of) (more (f .reads) h, omega arith)
 
-bytes-behind : (x r : List ℕ) → bytes (x ++ r) ≡ true → bytes r ≡ true
-bytes-behind [] r h = h
-bytes-behind (b ∷ x) r h = bytes-behind x r (and-parts (ltb b 256) (bytes (x ++ r)) h .1)
-
 -- what follows a number of bytes are bytes
 pub bytes-rest : (s : List ℕ) {n : ℕ} {r : List ℕ} → bytes s ≡ true → front s ≡ got n r → bytes r ≡ true
-bytes-rest s {n} {r} h p = bytes-behind (bytesOf n) r (rw (bytes-front n r s h p) at h)
+bytes-rest s {n} {r} h p = all-parts (λ b. ltb b 256) (bytesOf n) r (rw (bytes-front n r s h p) at h) .1
 
 -- A file of bytes is the file of the numbers that it holds.
 pub holds-file : {s l : List ℕ} → bytes s ≡ true → Holds s l → s ≡ concat (map bytesOf l)

@@ -16,10 +16,9 @@ pub record Storable (s : List ℕ) (at n : ℕ) : Type 0 where
   pub small : n ≤ largest
   pub room : at + length (bytesOf n) ≤ length s
 
--- the bytes of n stand in s from a place on, and `next` is the place after them; every other byte is as before
-pub record Stored (s : List ℕ) (at n next : ℕ) (after : List ℕ) : Type 0 where
-  pub place : next ≡ at + length (bytesOf n)
-  pub bytes : after ≡ sets s at (bytesOf n)
+-- the place after the bytes of n, which stand in s from a place on; every other byte is as before
+abbrev pub stored : List ℕ → ℕ → ℕ → ℕ × List ℕ
+stored s at n = (at + length (bytesOf n), sets s at (bytesOf n))
 
 -- ---- one, two and three bytes
 
@@ -60,12 +59,12 @@ module _ (n : ℕ) where
   most-wide = wide .1
 
   module _ (s : List ℕ) (at : ℕ) where
-    pub one-stored : n < 128 → Stored s at n (at + 1) (set s at n)
-    one-stored h = record { place = omega (arith, one-wide h); bytes = rw (bytes-one h) }
+    pub one-stored : n < 128 → (at + 1, set s at n) ≡ stored s at n
+    one-stored h = rw (bytes-one h)
 
-    pub two-stored : 128 ≤ n → n < 16384 → Stored s at n (at + 2) (set (set s at (128 + n % 128)) (at + 1) (n / 128))
-    two-stored h l = record { place = omega (arith, two-wide h l); bytes = rw (bytes-two h l, add-one) }
+    pub two-stored : 128 ≤ n → n < 16384 → (at + 2, set (set s at (128 + n % 128)) (at + 1) (n / 128)) ≡ stored s at n
+    two-stored h l = rw (bytes-two h l, add-one)
 
     pub three-stored : 16384 ≤ n
-        → Stored s at n (at + 3) (set (set (set s at (128 + n % 128)) (at + 1) (128 + n / 128 % 128)) (at + 2) (n / 16384))
-    three-stored h = record { place = omega (arith, three-wide h); bytes = rw (bytes-three h, add-one, add-two) }
+        → (at + 3, set (set (set s at (128 + n % 128)) (at + 1) (128 + n / 128 % 128)) (at + 2) (n / 16384)) ≡ stored s at n
+    three-stored h = rw (bytes-three h, add-one, add-two)

@@ -7,7 +7,7 @@ ghost use Prim.Native.Nat.{_<_};
 ghost use lib.ListN.{length, drop};
 ghost use Rattle.paper.specs.Files.{bytesOf, second, third};
 ghost use Rattle.numbers.specs.At.{placed, numAt};
-ghost use Rattle.numbers.specs.Store.{Storable, Stored};
+ghost use Rattle.numbers.specs.Store.{Storable, stored};
 
 // What stands at a place: a number, with the place after it, or none.
 pub enum Num {
@@ -90,7 +90,7 @@ pub fn width(n: u32) -> usize
 // The bytes of n go into s from place `at` on; the place after them.
 pub fn put_number(s: &mut [u8], at: usize, n: u32) -> usize
     requires { ⌜ Storable (now s) at n ⌝ }
-    ensures { λ r. ⌜ Stored (now (s .entry)) at n r (now (s .exit)) ⌝ }
+    ensures { λ r. ⌜ (r, now (s .exit)) ≡ stored (now (s .entry)) at n ⌝ }
 {
     if n < 128 {
         s[at] = n as u8;

@@ -23,9 +23,11 @@ pub mod Validity
 -- "The five edits"
 pub mod Edits
 pub mod TreeEdits
--- "Answer numbers"
+-- "Answer numbers": which numbers a call gives, and what each call does
 pub mod Answers
+pub mod Calls
 -- "The small shade": the edit program, and the cases
 pub mod Program
 pub mod Open
 pub mod SmallShade
+pub mod Given

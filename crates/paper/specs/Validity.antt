@@ -1,6 +1,6 @@
--- "Judgement of a document", told as a statement: when a document is valid by a schema's own expressions. There is no table and
--- no test of a child sequence here, only what expressions mean. That the judgement finds no fault exactly in the valid
--- documents is a promise. Assumes nothing.
+-- "Judgement of a document", told as a statement: when a document is valid by a schema's own expressions. There is no table, no
+-- test of a child sequence and no list of IDs here, only what expressions mean and where tokens stand. That the judgement finds no
+-- fault exactly in the valid documents is a promise. Assumes nothing.
 use mathlib.Core.Path.{_≡_}
 use mathlib.Core.Logic.{_⊎_}
 use mathlib.Core.Bool.{true}
@@ -9,15 +9,13 @@ use Prim.Native.Nat.{ℕ, zero, _<_}
 use lib.Dec.{T}
 use lib.ListN.{length, take}
 use Rattle.paper.specs.declared.Tok.{Tok}
-use Rattle.paper.specs.declared.Tok.the-variants.{Start, Text, Attr}
-use Rattle.paper.specs.Basics.{all, elem, distinct}
+use Rattle.paper.specs.declared.Tok.the-variants.{Start, Text, Attr, Value}
 use Rattle.paper.specs.Expressions.{Matches}
 use Rattle.paper.specs.Schema.{Content, empty, text, model, Element, Schema}
 use Rattle.paper.specs.Table.{ofKind, isRequired}
 use Rattle.paper.specs.Tokens.{toks, heads, kids, values}
 use Rattle.paper.specs.Shape.{shapeOf}
-use Rattle.paper.specs.Rules.{elementAt, has, ofSchema}
-use Rattle.paper.specs.Judgement.{idsOf, refsOf, valueIn}
+use Rattle.paper.specs.Rules.{elementAt, has}
 
 -- "attributes (8): each one allowed, all required present, one value each unless IDREFS". h: the attributes and values that
 -- stand after a start of the element x
@@ -39,16 +37,48 @@ pub record ElementValid (s : Schema) (n : ℕ) (h k : List Tok) : Type 0 where
   pub attributes : AttributesValid (elementAt s n) h
   pub content : ContentValid (elementAt s n .content) k
 
+-- ---- IDs and references
+
+-- A value that comes directly after the tokens u is one of the attribute a of an element n: u ends in a start of n, attributes and
+-- values and nothing else, the attribute a, and the values of a that come earlier.
+pub record EndsIn (u : List Tok) (n a : ℕ) : Type 0 where
+  pub before : List Tok
+  pub attributes : List Tok
+  pub nothing-else : heads attributes ≡ attributes
+  pub earlier : List ℕ
+  pub tokens : u ≡ before ++ Start n ∷ attributes ++ Attr a ∷ map Value earlier
+
+-- The value x stands at a place of d, at an attribute of an element: P holds of the numbers of the two.
+pub record StandsAt (P : (n a : ℕ) → Type 0) (d : List Tok) (place x : ℕ) : Type 0 where
+  pub element : ℕ
+  pub attribute : ℕ
+  pub before : List Tok
+  pub after : List Tok
+  pub tokens : d ≡ before ++ Value x ∷ after
+  pub at-place : length before ≡ place
+  pub ends : EndsIn before element attribute
+  pub such : P element attribute
+
+-- The element declares the attribute, as an ID; as an IDREF or IDREFS. "Attributes not allowed at their element, or at an undeclared
+-- one, are neither IDs nor references."
+abbrev pub IsId : Schema → (n a : ℕ) → Type 0
+IsId s n a = T (has (ofKind 1) (elementAt s n) a)
+
+abbrev pub IsReference : Schema → (n a : ℕ) → Type 0
+IsReference s n a = T (has (ofKind 2) (elementAt s n) a) ⊎ T (has (ofKind 3) (elementAt s n) a)
+
+-- ---- the document
+
 -- of a document with shape
 pub record Valid (s : Schema) (d : List Tok) : Type 0 where
   -- "the root's name (10, place 0)"
   pub root : (r : List Tok) × (d ≡ Start (s .root) ∷ r)
   -- "then elements by rising start place"
   pub elements : (u r : List Tok) (n : ℕ) → d ≡ u ++ Start n ∷ r → ElementValid s n (heads r) (kids zero r)
-  -- "an ID value met earlier as an ID (11 [..])"
-  pub ids : distinct (map valueIn (idsOf (ofSchema s) d)) ≡ true
-  -- "a reference value that is no ID in the document (12 [..])"
-  pub references : all (λ p. elem (valueIn p) (map valueIn (idsOf (ofSchema s) d))) (refsOf (ofSchema s) d) ≡ true
+  -- no "ID value met earlier as an ID (11 [..])": equal ID values stand at one place
+  pub ids : (i j x : ℕ) → StandsAt (IsId s) d i x → StandsAt (IsId s) d j x → i ≡ j
+  -- no "reference value that is no ID in the document (12 [..])": each is an ID value too
+  pub references : (i x : ℕ) → StandsAt (IsReference s) d i x → (j : ℕ) × StandsAt (IsId s) d j x
 
 -- the document that a buffer holds
 pub record ValidDocument (s : Schema) (buffer : List ℕ) (used : ℕ) : Type 0 where

@@ -1,13 +1,14 @@
 -- The run of edits: a line for each, until the file ends or is broken. Assumes nothing.
 use mathlib.Core.Path.{_≡_, refl, sym, ap, _∙_}
 use mathlib.Core.Bool.{true}
+use mathlib.Core.Logic.{inl, inr}
 use mathlib.Core.List.{List, [], _∷_, _++_, append-assoc, append-nil}
 use Prim.Native.Nat.{ℕ, zero, suc, _+_, _-_, _*_, _≤_, _<_}
 use native.Mathlib.Omega.{arith}
 use native.Mathlib.Numerals.{add-one}
 use lib.ListN.{length, take, drop, getD, drop-of-length-le}
 use lib.Seq.{drop-cons}
-use Rattle.paper.specs.Basics.{mostTokens}
+use Rattle.paper.specs.Basics.{mostTokens, mostFile}
 use Rattle.paper.specs.Schema.{stop, ok}
 use Rattle.paper.specs.Table.{proper}
 use Rattle.paper.specs.Rules.{Rules, ofTable}
@@ -15,10 +16,14 @@ use Rattle.paper.specs.Edits.{Request, Outcome, outcome, editBy, edit}
 use Rattle.paper.specs.Program.{halt, line, request, editLines}
 use Rattle.edits.specs.declared.Answer.{Answer}
 use Rattle.edits.specs.Outcomes.{outcomeOf}
-use Rattle.program.specs.declared.Edit.{Edit}
-use Rattle.program.specs.Put.{Put, put-length, put-both, put-as, put-none}
-use Rattle.program.specs.Lines.{lineOf, text, text-none, text-more, lineRoom, outputRoom}
-use Rattle.program.specs.Requests.{EditAt}
+use Rattle.edit_file.specs.declared.Edit.{Edit}
+use Rattle.lines.specs.Put.{Put, put-length, put-both, put-as, put-none}
+use Rattle.lines.specs.Lines.{lineOf, text, text-none, text-more, lineRoom, Stop}
+use Rattle.edit_file.specs.Request.{EditAt}
+
+-- the most bytes of all lines
+abbrev pub outputRoom : ℕ
+outputRoom = 21847 * lineRoom
 
 -- ---- one line of the run
 
@@ -77,7 +82,7 @@ module _ (table doc₀ : List ℕ) (used₀ : ℕ) (file out₀ : List ℕ) (at 
         (sym (g .same ∙ rw (drop-of-length-le file h, run-end (ofTable table) k doc used (suc (length file) - k), text-none) (append-nil (g .lines))))
 
     module _ (h : from < length file) where
-      pub go-room : length file ≤ 65536 → length out₀ ≡ outputRoom → (k < 100000) × (to + lineRoom ≤ length out)
+      pub go-room : length file ≤ mostFile → length out₀ ≡ outputRoom → (k < 100000) × (to + lineRoom ≤ length out)
       go-room f l = (omega (arith, g .few), omega (arith, g .few, g .room, g .long))
 
       next : drop from file ≡ getD file from 0 ∷ drop (suc from) file
@@ -94,6 +99,12 @@ module _ (table doc₀ : List ℕ) (used₀ : ℕ) (file out₀ : List ℕ) (at 
             rw (next, left, run-stop (ofTable table) k doc used (length file - k) (getD file from 0) (drop (suc from) file) s, text-more, text-none)
             (append-nil (lineOf (halt (e .number)))) in
             put-as (put-both (g .put) p) (sym (g .same ∙ ap (λ l. g .lines ++ l) t))
+
+        pub go-halt : (e .number ≡ 0 → ⊥) → Stop (e .number)
+        go-halt z = elim (a .stops) [
+          | inl f ↦ record { low = omega arith; high = omega arith; not-four = λ y. omega arith }
+          | inr f ↦ record { low = omega arith; high = omega arith; not-four = λ y. omega arith }
+        ]
 
         pub go-less : e .number ≡ 0 → length file - e .next < length file - from
         go-less z = omega (arith, a .on z)

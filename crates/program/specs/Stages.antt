@@ -1,14 +1,14 @@
 -- Schema, document and check, in turn. Assumes nothing.
 use mathlib.Core.Path.{_≡_, refl, sym, ap, _∙_}
-use mathlib.Core.Bool.{Bool, true, false, not, _&&_, _||_}
-use mathlib.Core.Option.{some}
+use mathlib.Core.Bool.{Bool, true, false, cond, not, _&&_, _||_}
+use mathlib.Core.Option.{Option, none, some}
 use mathlib.Core.List.{List, [], _∷_, append-nil}
 use Prim.Native.Nat.{ℕ, _≤_, min}
 use native.Mathlib.Omega.{arith}
 use borrow.Author.Tests.{eqb-true, eq-eqb, ne-eqb, leb-true, not-true, not-false}
 use lib.Dec.{T, eqb, leb}
 use lib.ListN.{length}
-use Rattle.paper.specs.Basics.{mostTokens, elem}
+use Rattle.paper.specs.Basics.{mostTokens, mostFile, elem}
 use Rattle.paper.specs.Files.{Result, refused, made, Counted, counted, reading, read}
 use Rattle.paper.specs.Schema.{Schema, Parsed, stop, ok, schemaOf}
 use Rattle.paper.specs.Table.{tableLength, tableOf, proper, translated, translate}
@@ -19,9 +19,14 @@ use Rattle.numbers.specs.Laws.{tokens-refused}
 use Rattle.docfile.specs.declared.Count.{Count}
 use Rattle.docfile.specs.Outcome.{outcome}
 use Rattle.table_laws.specs.Translated.{file-proper, file-rules}
-use Rattle.promises.specs.Numbers.{Stops, schema-stops, read-answers}
-use Rattle.program.specs.Put.{Put, put-both, put-as}
-use Rattle.program.specs.Lines.{lineOf, text, text-none, text-more, Stop, given}
+use Rattle.answer_laws.specs.ReaderWriter.{read-answers}
+use Rattle.answer_laws.specs.Translator.{Stops, schema-stops}
+use Rattle.lines.specs.Put.{Put, put-both, put-as}
+use Rattle.lines.specs.Lines.{lineOf, text, text-none, text-more, Stop}
+
+-- a file that was opened, or not
+abbrev pub given : Bool → List ℕ → Option (List ℕ)
+given opened file = cond opened (some file) none
 
 -- one line alone
 line-alone : (l : Line) → lineOf l ≡ text (l ∷ [])
@@ -164,11 +169,11 @@ module _ (o : Bool) (schema doc edits : List ℕ) where
       unfolding printed linesOf text
       all-read f p = put-as p (rw (not-false o t, sym e ∙ not-false b f))
 
-    pub edits-short : not b ≡ false → length edits ≤ 65536
-    edits-short f = go (leb (length schema) 65536) (leb (length doc) 65536) (leb (length edits) 65536) refl (sym e ∙ not-false b f)
+    pub edits-short : not b ≡ false → length edits ≤ mostFile
+    edits-short f = go (leb (length schema) mostFile) (leb (length doc) mostFile) (leb (length edits) mostFile) refl (sym e ∙ not-false b f)
       where
-        go : (x y z : Bool) → leb (length edits) 65536 ≡ z → x && y && z ≡ true → length edits ≤ 65536
-        go true true true p q = leb-true (length edits) 65536 p
+        go : (x y z : Bool) → leb (length edits) mostFile ≡ z → x && y && z ≡ true → length edits ≤ mostFile
+        go true true true p q = leb-true (length edits) mostFile p
         go true true false p q = let w : _≡_ {A = ℕ} 0 1 = cc in absurd (omega arith)
         go true false z p q = let w : _≡_ {A = ℕ} 0 1 = cc in absurd (omega arith)
         go false y z p q = let w : _≡_ {A = ℕ} 0 1 = cc in absurd (omega arith)

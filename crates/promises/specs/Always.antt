@@ -1,5 +1,5 @@
--- What holds of every outcome that a contract allows, whatever the input: two are equal; a refusal leaves everything lent as it
--- was; a done edit leaves the edited document. Assumes nothing.
+-- What holds of every outcome of the paper's calls, whatever the input: two are equal; a refusal leaves everything lent as it was; a
+-- done edit leaves the edited document. Assumes nothing.
 use mathlib.Core.Path.{_≡_, refl, sym, _∙_}
 use mathlib.Core.Logic.{_≢_}
 use mathlib.Core.Bool.{Bool, true, false, cond}
@@ -18,23 +18,24 @@ use Rattle.paper.specs.Rules.{Rules, ofTable}
 use Rattle.paper.specs.Judgement.{Answer, judge}
 use Rattle.paper.specs.Edits.{Request, Outcome, Edited, refused as rejected, done, outcome, edited, touchedBy, formFault, answered, editing, editBy, written, edit}
 use Rattle.paper.specs.Tokens.{toks}
+use Rattle.promises.specs.Calls.{papers}
 use Rattle.promises.specs.Statements.{ReadDeterminate, WriteDeterminate, TranslateDeterminate, CheckDeterminate, EditDeterminate, ReadKeeps, WriteKeeps, TranslateKeeps, Kept, EditKeeps, Left, EditLeaves}
 
 -- ---- one outcome for one input
 
-pub read-determinate : ReadDeterminate
+pub read-determinate : ReadDeterminate papers
 read-determinate i o p a b = a ∙ sym b
 
-pub write-determinate : WriteDeterminate
+pub write-determinate : WriteDeterminate papers
 write-determinate i o p a b = a ∙ sym b
 
-pub translate-determinate : TranslateDeterminate
+pub translate-determinate : TranslateDeterminate papers
 translate-determinate i o p a b = a ∙ sym b
 
-pub check-determinate : CheckDeterminate
+pub check-determinate : CheckDeterminate papers
 check-determinate i o p a b = a ∙ sym b
 
-pub edit-determinate : EditDeterminate
+pub edit-determinate : EditDeterminate papers
 edit-determinate i o p a b = a ∙ sym b
 
 -- ---- refusals
@@ -43,15 +44,15 @@ counted-keeps : (r : Result) (buffer : List ℕ) (o : Counted) → o ≡ counted
 counted-keeps (refused k) buffer o e n = (cc, cc)
 counted-keeps (made l) buffer o e n = absurd (n (cc))
 
-pub read-keeps : ReadKeeps
+pub read-keeps : ReadKeeps papers
 unfolding read
 read-keeps file buffer o e n = counted-keeps (reading file buffer) buffer o e n
 
-pub write-keeps : WriteKeeps
+pub write-keeps : WriteKeeps papers
 unfolding write
 write-keeps tokens buffer o e n = counted-keeps (writing tokens buffer) buffer o e n
 
-pub translate-keeps : TranslateKeeps
+pub translate-keeps : TranslateKeeps papers
 unfolding translate
 translate-keeps file table o e n = by-length (eqb (length table) tableLength) e
   where
@@ -101,12 +102,12 @@ module _ (table buffer : List ℕ) (used : ℕ) (q : Request) where
       let at-l : (o .place ≡ 0) × (o .used ≡ length l) × (o .change ≡ pos (length l) -ℤ pos used) × (o .buffer ≡ written buffer used l) = (cc, cc, cc, cc) in
       rw s at at-l
 
-pub edit-keeps : EditKeeps
+pub edit-keeps : EditKeeps papers
 unfolding edit
 edit-keeps table buffer used q o e d =
     outcome-keeps table buffer used q (cond (proper table) (editBy (ofTable table) buffer used q) (rejected 13 0)) (by-table table buffer used q (proper table)) o e d
 
-pub edit-leaves : EditLeaves
+pub edit-leaves : EditLeaves papers
 unfolding edit
 edit-leaves table buffer used q o e z =
     outcome-leaves table buffer used q (cond (proper table) (editBy (ofTable table) buffer used q) (rejected 13 0)) (by-table table buffer used q (proper table)) o e z

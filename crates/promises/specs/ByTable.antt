@@ -11,9 +11,10 @@ use Rattle.paper.specs.Table.{tableLength, tableOf, translated, translate}
 use Rattle.paper.specs.Rules.{ofSchema}
 use Rattle.paper.specs.Edits.{Request, outcome, editBy, edit}
 use Rattle.table_laws.specs.Translated.{file-proper, file-rules, check-by-expressions, edit-by-expressions}
+use Rattle.promises.specs.Calls.{papers}
 use Rattle.promises.specs.Statements.{Translated, TableProper, TableReads, CheckByExpressions}
 
-module _ (s : Schema) (table : List ℕ) (t : Translated s table) where
+module _ (s : Schema) (table : List ℕ) (t : Translated papers s table) where
   pub its-table : table ≡ tableOf s
   unfolding translate
   its-table = go (eqb (length (t .lent)) tableLength) (t .translates)
@@ -25,11 +26,11 @@ module _ (s : Schema) (table : List ℕ) (t : Translated s table) where
   pub edit-judged : (buffer : List ℕ) (used : ℕ) (q : Request) → edit table buffer used q ≡ outcome buffer used (editBy (ofSchema s) buffer used q)
   edit-judged buffer used q = rw its-table (edit-by-expressions (t .file) (t .reads) buffer used q)
 
-pub table-proper : TableProper
+pub table-proper : TableProper papers
 table-proper s table t = rw (its-table s table t) (file-proper (t .file) (t .reads))
 
-pub table-reads : TableReads
+pub table-reads : TableReads papers
 table-reads s table t = rw (its-table s table t) (file-rules (t .file) (t .reads))
 
-pub check-judged : CheckByExpressions
+pub check-judged : CheckByExpressions papers
 check-judged s table t buffer used o e = e ∙ rw (its-table s table t) (check-by-expressions (t .file) (t .reads) buffer used)

@@ -1,29 +1,36 @@
--- The five calls, each by what its contract allows: an outcome is the answer and every place of lent memory after the call, as a
--- function of what was given. Promises are said of any outcomes that the contracts allow. Assumes nothing.
-use mathlib.Core.Path.{_≡_}
+-- Five calls, each by the outcomes that its contract allows. A promise is said of any such five. Assumes nothing.
 use mathlib.Core.List.{List}
 use Prim.Native.Nat.{ℕ}
-use Rattle.paper.specs.Files.{Counted, read, write}
-use Rattle.paper.specs.Table.{translate}
-use Rattle.paper.specs.Judgement.{Answer, check}
-use Rattle.paper.specs.Edits.{Request, Outcome, edit}
+use Rattle.paper.specs.Files.{Counted}
+use Rattle.paper.specs.Judgement.{Answer}
+use Rattle.paper.specs.Edits.{Request, Outcome}
+use Rattle.paper.specs.Calls as paper
 
--- the reader: number, count, and the token buffer
-abbrev pub Reads : (file buffer : List ℕ) → Counted → Type 0
-Reads file buffer o = o ≡ read file buffer
+-- what each is given, and an outcome: the answer and every place of lent memory after the call
+pub record Calls : Type 1 where
+  pub Reads : (file buffer : List ℕ) → Counted → Type 0
+  pub Writes : (tokens buffer : List ℕ) → Counted → Type 0
+  pub Translates : (file table : List ℕ) → ℕ × List ℕ → Type 0
+  pub Checks : (table buffer : List ℕ) → (used : ℕ) → Answer → Type 0
+  pub Performs : (table buffer : List ℕ) → (used : ℕ) → Request → Outcome → Type 0
 
--- the writer: number, count, and the byte buffer
-abbrev pub Writes : (tokens buffer : List ℕ) → Counted → Type 0
-Writes tokens buffer o = o ≡ write tokens buffer
+-- the paper's five
+abbrev pub papers : Calls
+papers = record { Reads = paper.Reads; Writes = paper.Writes; Translates = paper.Translates; Checks = paper.Checks; Performs = paper.Performs }
 
--- the translator: number, and the table
-abbrev pub Translates : (file table : List ℕ) → ℕ × List ℕ → Type 0
-Translates file table o = o ≡ translate file table
+-- five calls that allow no outcome but the paper's: of these every promise is proved
+pub record Faithful (calls : Calls) : Type 0 where
+  pub reads : (file buffer : List ℕ) (o : Counted) → calls .Reads file buffer o → paper.Reads file buffer o
+  pub writes : (tokens buffer : List ℕ) (o : Counted) → calls .Writes tokens buffer o → paper.Writes tokens buffer o
+  pub translates : (file table : List ℕ) (o : ℕ × List ℕ) → calls .Translates file table o → paper.Translates file table o
+  pub checks : (table buffer : List ℕ) (used : ℕ) (o : Answer) → calls .Checks table buffer used o → paper.Checks table buffer used o
+  pub performs : (table buffer : List ℕ) (used : ℕ) (q : Request) (o : Outcome) → calls .Performs table buffer used q o → paper.Performs table buffer used q o
 
--- the check: number and place; it is lent nothing to write to
-abbrev pub Checks : (table buffer : List ℕ) → (used : ℕ) → Answer → Type 0
-Checks table buffer used o = o ≡ check table buffer used
-
--- the edit: number, place, used length, change in length, and the buffer
-abbrev pub Performs : (table buffer : List ℕ) → (used : ℕ) → Request → Outcome → Type 0
-Performs table buffer used q o = o ≡ edit table buffer used q
+pub papers-faithful : Faithful papers
+papers-faithful = record {
+  reads = λ file buffer o r. r;
+  writes = λ tokens buffer o w. w;
+  translates = λ file table o t. t;
+  checks = λ table buffer used o c. c;
+  performs = λ table buffer used q o p. p;
+}

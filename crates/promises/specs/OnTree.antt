@@ -14,8 +14,9 @@ use Rattle.paper.specs.Judgement.{judge}
 use Rattle.paper.specs.Edits.{Request, Outcome, refused, outcome, edited, touchedBy, formFault, answered, editing, editBy, edit, written}
 use Rattle.shape_laws.specs.EditJudged.{form-iff}
 use Rattle.edits_laws.specs.Edited.{edited-tree}
+use Rattle.promises.specs.Calls.{papers}
 use Rattle.promises.specs.Statements.{InForm, EditIsTreeEdit}
-use Rattle.promises.specs.ShapeParts.{shape-element}
+use Rattle.answer_laws.specs.ShapeParts.{shape-element}
 use Rattle.promises.specs.Always.{edit-leaves}
 
 -- what was done had shape and was in form
@@ -43,7 +44,7 @@ module _ (table buffer : List ℕ) (used : ℕ) (q : Request) (o : Outcome) wher
 used-tokens : (buffer : List ℕ) (used : ℕ) (new : List ℕ) → take (length new) (written buffer used new) ≡ new
 used-tokens buffer used new = take-at new (replicate (used - length new) 0 ++ drop (max used (length new)) buffer) (length new) refl
 
-pub edit-on-tree : EditIsTreeEdit
+pub edit-on-tree : EditIsTreeEdit papers
 edit-on-tree table buffer used q o e z =
     let (s, f) = done-form table buffer used q o e z in
     let (p, u, c, b) = edit-leaves table buffer used q o e z in

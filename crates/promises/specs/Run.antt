@@ -21,8 +21,9 @@ use Rattle.paper.specs.Judgement.{Answer, none-found, orElse, before, rootFault
 use Rattle.paper.specs.Validity.{ValidDocument}
 use Rattle.paper.specs.Edits.{Request, Outcome, refused, done, outcome, edited, touchedBy, formFault, answered, editing, editBy, written}
 use Rattle.shape_laws.specs.EditJudged.{Asked, form-iff, judged-whole, asked-shape}
+use Rattle.promises.specs.Calls.{papers}
 use Rattle.promises.specs.Statements.{Translated, Kept, Left, InForm, Right, EachRight, Runs}
-use Rattle.promises.specs.ShapeParts.{and-right, shape-long, shape-element}
+use Rattle.answer_laws.specs.ShapeParts.{and-right, shape-long, shape-element}
 use Rattle.promises.specs.Always.{edit-keeps, edit-leaves}
 use Rattle.promises.specs.ByTable.{edit-judged}
 
@@ -169,8 +170,8 @@ module _ (s : Schema) (valid-iff : (buffer : List ℕ) (used : ℕ) → (checkin
 
   -- ---- the run
 
-  pub run-right : (table : List ℕ) → Translated s table → (buffer : List ℕ) (used : ℕ) → ValidDocument s buffer used
-      → (l : List (Request × Outcome)) → Runs table buffer used l → EachRight s buffer used l
+  pub run-right : (table : List ℕ) → Translated papers s table → (buffer : List ℕ) (used : ℕ) → ValidDocument s buffer used
+      → (l : List (Request × Outcome)) → Runs papers table buffer used l → EachRight s buffer used l
   run-right table t buffer used v [] r = tt
   run-right table t buffer used v (x ∷ l) (p, r) =
       let q : Request = x .0 in

@@ -1,19 +1,21 @@
--- Every promise, stated: each is a type, and a proof of it stands in Proved, or is still to come. Nothing here is assumed.
+-- Every promise, stated: each is a type, and its proof stands in Theorems. Those of the calls are said of any five calls, each given
+-- by the outcomes that its contract allows. Assumes nothing.
 use mathlib.Core.Path.{_≡_}
-use mathlib.Core.Logic.{_↔_, _≢_}
+use mathlib.Core.Logic.{_↔_, _≢_, _⊎_}
 use mathlib.Core.Bool.{true}
 use mathlib.Core.List.{List, [], _∷_, _++_}
-use Prim.Native.Nat.{ℕ, _<_}
+use Prim.Native.Nat.{ℕ, _≤_, _<_}
 use lib.Dec.{T}
 use lib.IntN.{pos, _-ℤ_}
 use lib.ListN.{length, take}
 use Rattle.paper.specs.declared.Tok.{Tok}
 use Rattle.paper.specs.Files.{Counted, fileOf}
-use Rattle.paper.specs.Expressions.{Expr, Matches}
+use Rattle.paper.specs.Expressions.{Expr, Matches, Marked}
+use Rattle.paper.specs.Sets.{nullable, bit, firstWord, lastWord, followWord}
 use Rattle.paper.specs.Matching.{matches}
 use Rattle.paper.specs.Schema.{Schema, ok, stop, schemaOf}
 use Rattle.paper.specs.SchemaWritten.{schemaWritten, formed, Unambiguous, MeetsAmbiguous}
-use Rattle.paper.specs.Table.{proper}
+use Rattle.paper.specs.Table.{tableLength, tableOf, proper}
 use Rattle.paper.specs.Tokens.{toks}
 use Rattle.paper.specs.Shape.{isElement, shapeOf}
 use Rattle.paper.specs.Trees.{Forest, flat, IsTree, InShape}
@@ -23,82 +25,9 @@ use Rattle.paper.specs.Judgement.{Answer, checking}
 use Rattle.paper.specs.Validity.{ValidDocument}
 use Rattle.paper.specs.Edits.{Request, Outcome, edited, formFault, written}
 use Rattle.paper.specs.Answers.{Answers, readerAnswers, writerAnswers, translatorAnswers, checkAnswers, editAnswers}
-use Rattle.promises.specs.Calls.{Reads, Writes, Translates, Checks, Performs}
+use Rattle.promises.specs.Calls.{Calls}
 
--- ---- every call: one outcome for one input
-
--- "strong enough that two outcomes allowed for one input, answers and every place of lent memory, are proved equal"
-module _ {I O : Type 0} (Allows : I → O → Type 0) where
-  abbrev pub Determinate : Type 0
-  Determinate = (i : I) (o p : O) → Allows i o → Allows i p → o ≡ p
-
-abbrev pub ReadDeterminate : Type 0
-ReadDeterminate = Determinate {I = List ℕ × List ℕ} (λ i. Reads (i .0) (i .1))
-
-abbrev pub WriteDeterminate : Type 0
-WriteDeterminate = Determinate {I = List ℕ × List ℕ} (λ i. Writes (i .0) (i .1))
-
-abbrev pub TranslateDeterminate : Type 0
-TranslateDeterminate = Determinate {I = List ℕ × List ℕ} (λ i. Translates (i .0) (i .1))
-
-abbrev pub CheckDeterminate : Type 0
-CheckDeterminate = Determinate {I = List ℕ × List ℕ × ℕ} (λ i. Checks (i .0) (i .1) (i .2))
-
-abbrev pub EditDeterminate : Type 0
-EditDeterminate = Determinate {I = List ℕ × List ℕ × ℕ × Request} (λ i. Performs (i .0) (i .1) (i .2) (i .3))
-
--- ---- demand 1: "Every call takes every input and answers a number of the paper."
-
-abbrev pub ReadAnswers : Type 0
-ReadAnswers = (file buffer : List ℕ) (o : Counted) → Reads file buffer o → Answers readerAnswers (o .number) 0
-
-abbrev pub WriteAnswers : Type 0
-WriteAnswers = (tokens buffer : List ℕ) (o : Counted) → Writes tokens buffer o → Answers writerAnswers (o .number) 0
-
-abbrev pub TranslateAnswers : Type 0
-TranslateAnswers = (file table : List ℕ) (o : ℕ × List ℕ) → Translates file table o → Answers translatorAnswers (o .0) 0
-
--- "A whole check never gives 7"
-abbrev pub CheckAnswers : Type 0
-CheckAnswers = (table buffer : List ℕ) (used : ℕ) (o : Answer) → Checks table buffer used o → Answers checkAnswers (o .0) (o .1)
-
-abbrev pub EditAnswers : Type 0
-EditAnswers = (table buffer : List ℕ) (used : ℕ) (q : Request) (o : Outcome) → Performs table buffer used q o → Answers editAnswers (o .number) (o .place)
-
--- "A refused call leaves all lent memory as it was."
-abbrev pub ReadKeeps : Type 0
-ReadKeeps = (file buffer : List ℕ) (o : Counted) → Reads file buffer o → o .number ≢ 0 → (o .count ≡ 0) × (o .buffer ≡ buffer)
-
-abbrev pub WriteKeeps : Type 0
-WriteKeeps = (tokens buffer : List ℕ) (o : Counted) → Writes tokens buffer o → o .number ≢ 0 → (o .count ≡ 0) × (o .buffer ≡ buffer)
-
-abbrev pub TranslateKeeps : Type 0
-TranslateKeeps = (file table : List ℕ) (o : ℕ × List ℕ) → Translates file table o → o .0 ≢ 0 → o .1 ≡ table
-
--- "an edit's gives the old length and change 0"
-abbrev pub Kept : (buffer : List ℕ) → (used : ℕ) → Outcome → Type 0
-Kept buffer used o = (o .used ≡ used) × (o .change ≡ pos 0) × (o .buffer ≡ buffer)
-
-abbrev pub EditKeeps : Type 0
-EditKeeps = (table buffer : List ℕ) (used : ℕ) (q : Request) (o : Outcome) → Performs table buffer used q o → o .number ≢ 0 → Kept buffer used o
-
--- ---- demand 2
-
--- a list of bytes
-abbrev pub Bytes : List ℕ → Type 0
-Bytes l = (u v : List ℕ) (b : ℕ) → l ≡ u ++ b ∷ v → b < 256
-
--- "Read∘write and write∘read give the same tokens and bytes": a file that was read, written again
-abbrev pub ReadThenWrite : Type 0
-ReadThenWrite = (file buffer room : List ℕ) (o p : Counted) → Bytes file
-    → Reads file buffer o → o .number ≡ 0 → Writes (take (o .count) (o .buffer)) room p → p .number ≡ 0
-    → (take (p .count) (p .buffer) ≡ file)
-
--- tokens that were written, read again
-abbrev pub WriteThenRead : Type 0
-WriteThenRead = (tokens buffer room : List ℕ) (o p : Counted)
-    → Writes tokens buffer o → o .number ≡ 0 → Reads (take (o .count) (o .buffer)) room p → p .number ≡ 0
-    → (take (p .count) (p .buffer) ≡ tokens)
+-- ---- what the tests and sets of the paper mean
 
 -- "the tree": a document has the shape of one element exactly if it is the tokens of a tree of elements
 abbrev pub ShapeIsTree : Type 0
@@ -112,26 +41,44 @@ ShapeExactly = (buffer : List ℕ) (used : ℕ) → (shapeOf buffer used ≡ tru
 abbrev pub MatchingMeans : Type 0
 MatchingMeans = (e : Expr) (w : List ℕ) → T (matches e w) ↔ Matches e w
 
--- A schema, its file, and the table that a done translation left.
-pub record Translated (s : Schema) (table : List ℕ) : Type 0 where
-  pub file : List ℕ
-  pub lent : List ℕ
-  pub left : List ℕ
-  pub bytes : Bytes file
-  pub reads : schemaOf file ≡ ok s left
-  pub translates : Translates file lent (0, table)
+-- "1 if no child at all matches, else 0"
+abbrev pub NoChildMeans : Type 0
+NoChildMeans = (e : Expr) → T (nullable e) ↔ Marked 0 e []
 
--- "The whole check says valid exactly when the document is valid"
-abbrev pub CheckValid : Type 0
-CheckValid = (s : Schema) (table : List ℕ) → Translated s table
-    → (buffer : List ℕ) (used : ℕ) (o : Answer) → Checks table buffer used o
-    → (o .0 ≡ 0) ↔ ValidDocument s buffer used
+-- "First and last are those that can begin and end a match", bit k for occurrence k
+abbrev pub FirstMeans : Type 0
+FirstMeans = (e : Expr) (k : ℕ) → T (bit (firstWord 0 e) k) ↔ ((v : List ℕ) × Marked 0 e (k ∷ v))
 
--- "else the first broken rule and its place": number and place are those of the judgement from the expressions
-abbrev pub CheckByExpressions : Type 0
-CheckByExpressions = (s : Schema) (table : List ℕ) → Translated s table
-    → (buffer : List ℕ) (used : ℕ) (o : Answer) → Checks table buffer used o
-    → o ≡ checking (ofSchema s) buffer used
+abbrev pub LastMeans : Type 0
+LastMeans = (e : Expr) (k : ℕ) → T (bit (lastWord 0 e) k) ↔ ((u : List ℕ) × Marked 0 e (u ++ k ∷ []))
+
+-- "a follow set, those that can come directly after"
+abbrev pub FollowMeans : Type 0
+FollowMeans = (e : Expr) (j k : ℕ) → T (bit (followWord 0 e j) k) ↔ ((u : List ℕ) × (v : List ℕ) × Marked 0 e (u ++ j ∷ k ∷ v))
+
+-- ---- files
+
+-- a list of bytes
+abbrev pub Bytes : List ℕ → Type 0
+Bytes l = (u v : List ℕ) (b : ℕ) → l ≡ u ++ b ∷ v → b < 256
+
+-- the file of a schema within the limits, none of whose models is ambiguous
+abbrev pub FileOf : List ℕ → Schema → Type 0
+FileOf file s = (file ≡ fileOf (schemaWritten s)) × (formed s ≡ true) × Unambiguous (s .elements)
+
+-- "A schema is refused as ambiguous exactly when a model is." A file is taken exactly if it is that of such a schema ..
+abbrev pub TakenExactly : Type 0
+TakenExactly = (file : List ℕ) (s : Schema) → Bytes file → ((left : List ℕ) × (schemaOf file ≡ ok s left)) ↔ FileOf file s
+
+-- .. and refused with 3 exactly if it begins as such a file does, up to a model that is ambiguous.
+abbrev pub AmbiguousExactly : Type 0
+AmbiguousExactly = (file : List ℕ) → Bytes file → (schemaOf file ≡ stop 3) ↔ MeetsAmbiguous file
+
+-- ---- an edit
+
+-- "an edit's gives the old length and change 0"
+abbrev pub Kept : (buffer : List ℕ) → (used : ℕ) → Outcome → Type 0
+Kept buffer used o = (o .used ≡ used) × (o .change ≡ pos 0) × (o .buffer ≡ buffer)
 
 -- "A done edit leaves exactly the tree of the edit rules": the tokens of the edited document, their number, the change, and 0 up to
 -- the old length
@@ -139,39 +86,6 @@ abbrev pub Left : (buffer : List ℕ) → (used : ℕ) → Request → Outcome �
 Left buffer used q o =
     let new : List ℕ = edited q (take used buffer) in
     (o .place ≡ 0) × (o .used ≡ length new) × (o .change ≡ pos (length new) -ℤ pos used) × (o .buffer ≡ written buffer used new)
-
-abbrev pub EditLeaves : Type 0
-EditLeaves = (table buffer : List ℕ) (used : ℕ) (q : Request) (o : Outcome) → Performs table buffer used q o → o .number ≡ 0 → Left buffer used q o
-
--- .. and on the tree: the tree that the document was, and the one that it is now, are as the edit rules say
-abbrev pub EditIsTreeEdit : Type 0
-EditIsTreeEdit = (table buffer : List ℕ) (used : ℕ) (q : Request) (o : Outcome) → Performs table buffer used q o → o .number ≡ 0
-    → (old : Forest) × (new : Forest) × (toks (take used buffer) ≡ flat old []) × TreeEdit q old new × (toks (take (o .used) (o .buffer)) ≡ flat new [])
-
--- ---- demand 3
-
--- the table of a translated schema is proper, and reads as the expressions do
-abbrev pub TableProper : Type 0
-TableProper = (s : Schema) (table : List ℕ) → Translated s table → proper table ≡ true
-
-abbrev pub TableReads : Type 0
-TableReads = (s : Schema) (table : List ℕ) → Translated s table → ofTable table ≡ ofSchema s
-
--- "A schema is refused as ambiguous exactly when a model is." A file is taken exactly if it is the file of a schema within the
--- limits, none of whose models is ambiguous ..
-abbrev pub TakenExactly : Type 0
-TakenExactly = (file : List ℕ) (s : Schema) → Bytes file
-    → ((left : List ℕ) × (schemaOf file ≡ ok s left))
-    ↔ ((file ≡ fileOf (schemaWritten s)) × (formed s ≡ true) × Unambiguous (s .elements))
-
--- .. and refused with 3 exactly if it begins as such a file does, up to a model that is ambiguous.
-abbrev pub AmbiguousExactly : Type 0
-AmbiguousExactly = (file : List ℕ) → Bytes file → (schemaOf file ≡ stop 3) ↔ MeetsAmbiguous file
-
--- A run of edits: each is made on what the one before left.
-abbrev pub Runs : (table buffer : List ℕ) → (used : ℕ) → List (Request × Outcome) → Type 0
-Runs table buffer used [] = Unit {0}
-Runs table buffer used (x ∷ l) = Performs table buffer used (x .0) (x .1) × Runs table (x .1 .buffer) (x .1 .used) l
 
 -- "each edit in good form, at an allowed place and within the limits"
 abbrev pub InForm : (buffer : List ℕ) → (used : ℕ) → Request → Type 0
@@ -197,8 +111,156 @@ abbrev pub EachRight : Schema → (buffer : List ℕ) → (used : ℕ) → List 
 EachRight s buffer used [] = Unit {0}
 EachRight s buffer used (x ∷ l) = Right s buffer used (x .0) (x .1) × EachRight s (x .1 .buffer) (x .1 .used) l
 
--- "From any document valid by the schema's own expressions, through any run of edits by the table, each edit [..]"
-abbrev pub Demand3 : Type 0
-Demand3 = (s : Schema) (table : List ℕ) → Translated s table
-    → (buffer : List ℕ) (used : ℕ) → ValidDocument s buffer used
-    → (l : List (Request × Outcome)) → Runs table buffer used l → EachRight s buffer used l
+-- "strong enough that two outcomes allowed for one input, answers and every place of lent memory, are proved equal"
+module _ {I O : Type 0} (Allows : I → O → Type 0) where
+  abbrev pub Determinate : Type 0
+  Determinate = (i : I) (o p : O) → Allows i o → Allows i p → o ≡ p
+
+-- ---- the calls
+
+module _ (calls : Calls) where
+  open Calls calls using (Reads, Writes, Translates, Checks, Performs)
+
+  -- ---- every call: one outcome for one input
+
+  abbrev pub ReadDeterminate : Type 0
+  ReadDeterminate = Determinate {I = List ℕ × List ℕ} (λ i. Reads (i .0) (i .1))
+
+  abbrev pub WriteDeterminate : Type 0
+  WriteDeterminate = Determinate {I = List ℕ × List ℕ} (λ i. Writes (i .0) (i .1))
+
+  abbrev pub TranslateDeterminate : Type 0
+  TranslateDeterminate = Determinate {I = List ℕ × List ℕ} (λ i. Translates (i .0) (i .1))
+
+  abbrev pub CheckDeterminate : Type 0
+  CheckDeterminate = Determinate {I = List ℕ × List ℕ × ℕ} (λ i. Checks (i .0) (i .1) (i .2))
+
+  abbrev pub EditDeterminate : Type 0
+  EditDeterminate = Determinate {I = List ℕ × List ℕ × ℕ × Request} (λ i. Performs (i .0) (i .1) (i .2) (i .3))
+
+  -- ---- demand 1: "Every call takes every input and answers a number of the paper."
+
+  abbrev pub ReadAnswers : Type 0
+  ReadAnswers = (file buffer : List ℕ) (o : Counted) → Reads file buffer o → Answers readerAnswers (o .number) 0
+
+  abbrev pub WriteAnswers : Type 0
+  WriteAnswers = (tokens buffer : List ℕ) (o : Counted) → Writes tokens buffer o → Answers writerAnswers (o .number) 0
+
+  abbrev pub TranslateAnswers : Type 0
+  TranslateAnswers = (file table : List ℕ) (o : ℕ × List ℕ) → Translates file table o → Answers translatorAnswers (o .0) 0
+
+  abbrev pub CheckAnswers : Type 0
+  CheckAnswers = (table buffer : List ℕ) (used : ℕ) (o : Answer) → Checks table buffer used o → Answers checkAnswers (o .0) (o .1)
+
+  -- "A whole check never gives 7"
+  abbrev pub CheckNever7 : Type 0
+  CheckNever7 = (table buffer : List ℕ) (used : ℕ) (o : Answer) → Checks table buffer used o → o .0 ≢ 7
+
+  abbrev pub EditAnswers : Type 0
+  EditAnswers = (table buffer : List ℕ) (used : ℕ) (q : Request) (o : Outcome) → Performs table buffer used q o → Answers editAnswers (o .number) (o .place)
+
+  -- "A refused call leaves all lent memory as it was."
+  abbrev pub ReadKeeps : Type 0
+  ReadKeeps = (file buffer : List ℕ) (o : Counted) → Reads file buffer o → o .number ≢ 0 → (o .count ≡ 0) × (o .buffer ≡ buffer)
+
+  abbrev pub WriteKeeps : Type 0
+  WriteKeeps = (tokens buffer : List ℕ) (o : Counted) → Writes tokens buffer o → o .number ≢ 0 → (o .count ≡ 0) × (o .buffer ≡ buffer)
+
+  abbrev pub TranslateKeeps : Type 0
+  TranslateKeeps = (file table : List ℕ) (o : ℕ × List ℕ) → Translates file table o → o .0 ≢ 0 → o .1 ≡ table
+
+  abbrev pub EditKeeps : Type 0
+  EditKeeps = (table buffer : List ℕ) (used : ℕ) (q : Request) (o : Outcome) → Performs table buffer used q o → o .number ≢ 0 → Kept buffer used o
+
+  -- ---- demand 2
+
+  -- "Read∘write and write∘read give the same tokens and bytes": a file that was read, written again
+  abbrev pub ReadThenWrite : Type 0
+  ReadThenWrite = (file buffer room : List ℕ) (o p : Counted) → Bytes file
+      → Reads file buffer o → o .number ≡ 0 → Writes (take (o .count) (o .buffer)) room p → p .number ≡ 0
+      → (take (p .count) (p .buffer) ≡ file)
+
+  -- tokens that were written, read again
+  abbrev pub WriteThenRead : Type 0
+  WriteThenRead = (tokens buffer room : List ℕ) (o p : Counted)
+      → Writes tokens buffer o → o .number ≡ 0 → Reads (take (o .count) (o .buffer)) room p → p .number ≡ 0
+      → (take (p .count) (p .buffer) ≡ tokens)
+
+  -- the call back is done where it has room
+  abbrev pub ReadThenWriteDone : Type 0
+  ReadThenWriteDone = (file buffer room : List ℕ) (o p : Counted) → Bytes file
+      → Reads file buffer o → o .number ≡ 0 → Writes (take (o .count) (o .buffer)) room p → length file ≤ length room
+      → p .number ≡ 0
+
+  abbrev pub WriteThenReadDone : Type 0
+  WriteThenReadDone = (tokens buffer room : List ℕ) (o p : Counted)
+      → Writes tokens buffer o → o .number ≡ 0 → Reads (take (o .count) (o .buffer)) room p → length tokens ≤ length room
+      → p .number ≡ 0
+
+  -- A schema, its file, and the table that a done translation left.
+  pub record Translated (s : Schema) (table : List ℕ) : Type 0 where
+    pub file : List ℕ
+    pub lent : List ℕ
+    pub left : List ℕ
+    pub bytes : Bytes file
+    pub reads : schemaOf file ≡ ok s left
+    pub translates : Translates file lent (0, table)
+
+  -- "The whole check says valid exactly when the document is valid"
+  abbrev pub CheckValid : Type 0
+  CheckValid = (s : Schema) (table : List ℕ) → Translated s table
+      → (buffer : List ℕ) (used : ℕ) (o : Answer) → Checks table buffer used o
+      → (o .0 ≡ 0) ↔ ValidDocument s buffer used
+
+  -- "else the first broken rule and its place": number and place are those of the judgement from the expressions
+  abbrev pub CheckByExpressions : Type 0
+  CheckByExpressions = (s : Schema) (table : List ℕ) → Translated s table
+      → (buffer : List ℕ) (used : ℕ) (o : Answer) → Checks table buffer used o
+      → o ≡ checking (ofSchema s) buffer used
+
+  abbrev pub EditLeaves : Type 0
+  EditLeaves = (table buffer : List ℕ) (used : ℕ) (q : Request) (o : Outcome) → Performs table buffer used q o → o .number ≡ 0 → Left buffer used q o
+
+  -- .. and on the tree: the tree that the document was, and the one that it is now, are as the edit rules say
+  abbrev pub EditIsTreeEdit : Type 0
+  EditIsTreeEdit = (table buffer : List ℕ) (used : ℕ) (q : Request) (o : Outcome) → Performs table buffer used q o → o .number ≡ 0
+      → (old : Forest) × (new : Forest) × (toks (take used buffer) ≡ flat old []) × TreeEdit q old new × (toks (take (o .used) (o .buffer)) ≡ flat new [])
+
+  -- ---- demand 3
+
+  -- the translator refuses a table of another length (13), and for one of 6,626 numbers ..
+  abbrev pub TranslateLength : Type 0
+  TranslateLength = (file table : List ℕ) (o : ℕ × List ℕ) → Translates file table o → (o .0 ≡ 13) ↔ (length table ≢ tableLength)
+
+  -- .. is done exactly if the file is that of a schema within the limits, none of whose models is ambiguous; it leaves its table
+  abbrev pub TranslateDone : Type 0
+  TranslateDone = (file table : List ℕ) (o : ℕ × List ℕ) → Translates file table o → Bytes file → length table ≡ tableLength
+      → (o .0 ≡ 0) ↔ ((s : Schema) × FileOf file s × (o .1 ≡ tableOf s))
+
+  -- .. answers 3 exactly if the file begins as such a one does, up to a model that is ambiguous
+  abbrev pub TranslateAmbiguous : Type 0
+  TranslateAmbiguous = (file table : List ℕ) (o : ℕ × List ℕ) → Translates file table o → Bytes file → length table ≡ tableLength
+      → (o .0 ≡ 3) ↔ MeetsAmbiguous file
+
+  -- .. and answers 1 or 2 to every other file
+  abbrev pub TranslateElse : Type 0
+  TranslateElse = (file table : List ℕ) (o : ℕ × List ℕ) → Translates file table o → Bytes file → length table ≡ tableLength
+      → ((s : Schema) → ¬ FileOf file s) → ¬ MeetsAmbiguous file → (o .0 ≡ 1) ⊎ (o .0 ≡ 2)
+
+  -- the table of a translated schema is proper, and reads as the expressions do
+  abbrev pub TableProper : Type 0
+  TableProper = (s : Schema) (table : List ℕ) → Translated s table → proper table ≡ true
+
+  abbrev pub TableReads : Type 0
+  TableReads = (s : Schema) (table : List ℕ) → Translated s table → ofTable table ≡ ofSchema s
+
+  -- A run of edits: each is made on what the one before left.
+  abbrev pub Runs : (table buffer : List ℕ) → (used : ℕ) → List (Request × Outcome) → Type 0
+  Runs table buffer used [] = Unit {0}
+  Runs table buffer used (x ∷ l) = Performs table buffer used (x .0) (x .1) × Runs table (x .1 .buffer) (x .1 .used) l
+
+  -- "From any document valid by the schema's own expressions, through any run of edits by the table, each edit [..]"
+  abbrev pub Demand3 : Type 0
+  Demand3 = (s : Schema) (table : List ℕ) → Translated s table
+      → (buffer : List ℕ) (used : ℕ) → ValidDocument s buffer used
+      → (l : List (Request × Outcome)) → Runs table buffer used l → EachRight s buffer used l

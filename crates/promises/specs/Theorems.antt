@@ -1,82 +1,36 @@
--- Every promise that is proved: a line for each statement, with the proof that it cites. Assumes nothing.
+-- Every promise that is proved: a line for each statement, with the proof that it cites. Those of the calls are proved of any five that
+-- allow no outcome but the paper's. Assumes nothing.
 use mathlib.Core.Path.{_≡_}
 use mathlib.Core.Logic.{_↔_}
 use mathlib.Core.Bool.{true}
-use mathlib.Core.List.{List}
+use mathlib.Core.List.{List, [], _∷_}
 use Prim.Native.Nat.{ℕ}
 use Rattle.paper.specs.Schema.{Schema}
 use Rattle.paper.specs.SchemaWritten.{formed}
 use Rattle.paper.specs.Rules.{ofSchema}
-use Rattle.paper.specs.Judgement.{Answer, checking}
+use Rattle.paper.specs.Judgement.{checking}
 use Rattle.paper.specs.Validity.{ValidDocument}
-use Rattle.content_laws.specs.Matching.{matches-iff}
+use Rattle.paper.specs.Edits.{Request, Outcome}
+use Rattle.content_laws.specs.Theorems as content
 use Rattle.shape_laws.specs.Tree.{shape-is-tree}
 use Rattle.shape_laws.specs.TreeDepth as tree-depth
 use Rattle.schema_laws.specs.Written.{bytes-of}
-use Rattle.schema_laws.specs.Taken.{taken-exactly, ambiguous-exactly}
 use Rattle.judge_laws.specs.Judged.{checked-valid}
-use Rattle.docfile.specs.Theorems.{read-write, write-read}
+use Rattle.docfile.specs.Theorems.{read-write, write-read, read-write-done, write-read-done}
+use Rattle.answer_laws.specs.ReaderWriter as reader-writer
+use Rattle.answer_laws.specs.Translator as translator
+use Rattle.answer_laws.specs.Check as check
+use Rattle.answer_laws.specs.Edit as edit
+use Rattle.promises.specs.Calls.{Calls, papers, Faithful}
 use Rattle.promises.specs.Statements as promised
-use Rattle.promises.specs.Statements.{Translated}
+use Rattle.promises.specs.Statements.{Translated, Runs}
 use Rattle.promises.specs.Always as always
-use Rattle.promises.specs.Numbers as numbers
 use Rattle.promises.specs.ByTable as by-table
+use Rattle.promises.specs.ByFile as by-file
 use Rattle.promises.specs.OnTree as on-tree
 use Rattle.promises.specs.Run.{run-right}
 
--- ---- every call
-
-pub read-determinate : promised.ReadDeterminate
-read-determinate = always.read-determinate
-
-pub write-determinate : promised.WriteDeterminate
-write-determinate = always.write-determinate
-
-pub translate-determinate : promised.TranslateDeterminate
-translate-determinate = always.translate-determinate
-
-pub check-determinate : promised.CheckDeterminate
-check-determinate = always.check-determinate
-
-pub edit-determinate : promised.EditDeterminate
-edit-determinate = always.edit-determinate
-
--- ---- demand 1
-
-pub read-answers : promised.ReadAnswers
-read-answers = numbers.read-answers
-
-pub write-answers : promised.WriteAnswers
-write-answers = numbers.write-answers
-
-pub translate-answers : promised.TranslateAnswers
-translate-answers = numbers.translate-answers
-
-pub check-answers : promised.CheckAnswers
-check-answers = numbers.check-answers
-
-pub edit-answers : promised.EditAnswers
-edit-answers = numbers.edit-answers
-
-pub read-keeps : promised.ReadKeeps
-read-keeps = always.read-keeps
-
-pub write-keeps : promised.WriteKeeps
-write-keeps = always.write-keeps
-
-pub translate-keeps : promised.TranslateKeeps
-translate-keeps = always.translate-keeps
-
-pub edit-keeps : promised.EditKeeps
-edit-keeps = always.edit-keeps
-
--- ---- demand 2
-
-pub read-then-write : promised.ReadThenWrite
-read-then-write file buffer room o p b r z w y = read-write file buffer room o p (bytes-of file b) r z w y .0
-
-pub write-then-read : promised.WriteThenRead
-write-then-read tokens buffer room o p w z r y = write-read tokens buffer room o p w z r y .0
+-- ---- what the tests and sets of the paper mean
 
 pub shape-tree : promised.ShapeIsTree
 shape-tree = shape-is-tree
@@ -85,41 +39,158 @@ pub shape-exactly : promised.ShapeExactly
 shape-exactly = tree-depth.shape-exactly
 
 pub matching-means : promised.MatchingMeans
-matching-means = matches-iff
+matching-means = content.matching
+
+pub no-child-means : promised.NoChildMeans
+no-child-means = content.nullable-means 0
+
+pub first-means : promised.FirstMeans
+first-means e k = rw (content.first-bits 0 e k) (content.first-means 0 e k)
+
+pub last-means : promised.LastMeans
+last-means e k = rw (content.last-bits 0 e k) (content.last-means 0 e k)
+
+pub follow-means : promised.FollowMeans
+follow-means e j k = rw (content.follow-bits 0 e j k) (content.follow-means 0 e j k)
+
+-- ---- files
+
+pub taken : promised.TakenExactly
+taken = by-file.taken
+
+pub ambiguous : promised.AmbiguousExactly
+ambiguous = by-file.ambiguous
+
+-- ---- the calls
 
 -- a schema that was read keeps the limits
-translated-formed : (s : Schema) (table : List ℕ) → Translated s table → formed s ≡ true
-translated-formed s table t = taken-exactly (t .file) s (bytes-of (t .file) (t .bytes)) .0 (t .left, t .reads) .1
+translated-formed : (s : Schema) (table : List ℕ) → Translated papers s table → formed s ≡ true
+translated-formed s table t = taken (t .file) s (t .bytes) .0 (t .left, t .reads) .1
 
-valid-iff : (s : Schema) (table : List ℕ) → Translated s table
+valid-iff : (s : Schema) (table : List ℕ) → Translated papers s table
     → (buffer : List ℕ) (used : ℕ) → (checking (ofSchema s) buffer used .0 ≡ 0) ↔ ValidDocument s buffer used
 valid-iff s table t = checked-valid s (translated-formed s table t)
 
-pub check-by-expressions : promised.CheckByExpressions
-check-by-expressions = by-table.check-judged
+module _ (calls : Calls) (is : Faithful calls) where
+  -- ---- every call
 
-pub check-valid : promised.CheckValid
-check-valid s table t buffer used o e = rw (check-by-expressions s table t buffer used o e) (valid-iff s table t buffer used)
+  pub read-determinate : promised.ReadDeterminate calls
+  read-determinate i o p a b = always.read-determinate i o p (is .reads _ _ o a) (is .reads _ _ p b)
 
-pub edit-leaves : promised.EditLeaves
-edit-leaves = always.edit-leaves
+  pub write-determinate : promised.WriteDeterminate calls
+  write-determinate i o p a b = always.write-determinate i o p (is .writes _ _ o a) (is .writes _ _ p b)
 
-pub edit-on-tree : promised.EditIsTreeEdit
-edit-on-tree = on-tree.edit-on-tree
+  pub translate-determinate : promised.TranslateDeterminate calls
+  translate-determinate i o p a b = always.translate-determinate i o p (is .translates _ _ o a) (is .translates _ _ p b)
 
--- ---- demand 3
+  pub check-determinate : promised.CheckDeterminate calls
+  check-determinate i o p a b = always.check-determinate i o p (is .checks _ _ _ o a) (is .checks _ _ _ p b)
 
-pub table-proper : promised.TableProper
-table-proper = by-table.table-proper
+  pub edit-determinate : promised.EditDeterminate calls
+  edit-determinate i o p a b = always.edit-determinate i o p (is .performs _ _ _ _ o a) (is .performs _ _ _ _ p b)
 
-pub table-reads : promised.TableReads
-table-reads = by-table.table-reads
+  -- ---- demand 1
 
-pub taken : promised.TakenExactly
-taken file s b = taken-exactly file s (bytes-of file b)
+  pub read-answers : promised.ReadAnswers calls
+  read-answers file buffer o r = reader-writer.read-answers file buffer o (is .reads file buffer o r)
 
-pub ambiguous : promised.AmbiguousExactly
-ambiguous file b = ambiguous-exactly file (bytes-of file b)
+  pub write-answers : promised.WriteAnswers calls
+  write-answers tokens buffer o w = reader-writer.write-answers tokens buffer o (is .writes tokens buffer o w)
 
-pub demand-3 : promised.Demand3
-demand-3 s table t = run-right s (valid-iff s table t) table t
+  pub translate-answers : promised.TranslateAnswers calls
+  translate-answers file table o t = translator.translate-answers file table o (is .translates file table o t)
+
+  pub check-answers : promised.CheckAnswers calls
+  check-answers table buffer used o c = check.check-answers table buffer used o (is .checks table buffer used o c)
+
+  pub check-never-7 : promised.CheckNever7 calls
+  check-never-7 table buffer used o c = check.check-never-7 table buffer used o (is .checks table buffer used o c)
+
+  pub edit-answers : promised.EditAnswers calls
+  edit-answers table buffer used q o p = edit.edit-answers table buffer used q o (is .performs table buffer used q o p)
+
+  pub read-keeps : promised.ReadKeeps calls
+  read-keeps file buffer o r = always.read-keeps file buffer o (is .reads file buffer o r)
+
+  pub write-keeps : promised.WriteKeeps calls
+  write-keeps tokens buffer o w = always.write-keeps tokens buffer o (is .writes tokens buffer o w)
+
+  pub translate-keeps : promised.TranslateKeeps calls
+  translate-keeps file table o t = always.translate-keeps file table o (is .translates file table o t)
+
+  pub edit-keeps : promised.EditKeeps calls
+  edit-keeps table buffer used q o p = always.edit-keeps table buffer used q o (is .performs table buffer used q o p)
+
+  -- ---- demand 2
+
+  pub read-then-write : promised.ReadThenWrite calls
+  read-then-write file buffer room o p b r z w y =
+      read-write file buffer room o p (bytes-of file b) (is .reads file buffer o r) z (is .writes _ room p w) y .0
+
+  pub write-then-read : promised.WriteThenRead calls
+  write-then-read tokens buffer room o p w z r y =
+      write-read tokens buffer room o p (is .writes tokens buffer o w) z (is .reads _ room p r) y .0
+
+  pub read-then-write-done : promised.ReadThenWriteDone calls
+  read-then-write-done file buffer room o p b r z w l =
+      read-write-done file buffer room o p (bytes-of file b) (is .reads file buffer o r) z (is .writes _ room p w) l
+
+  pub write-then-read-done : promised.WriteThenReadDone calls
+  write-then-read-done tokens buffer room o p w z r l =
+      write-read-done tokens buffer room o p (is .writes tokens buffer o w) z (is .reads _ room p r) l
+
+  -- a translation by the calls is one by the paper's
+  by-paper : (s : Schema) (table : List ℕ) → Translated calls s table → Translated papers s table
+  by-paper s table t = record {
+    file = t .file;
+    lent = t .lent;
+    left = t .left;
+    bytes = t .bytes;
+    reads = t .reads;
+    translates = is .translates (t .file) (t .lent) (0, table) (t .translates);
+  }
+
+  pub check-by-expressions : promised.CheckByExpressions calls
+  check-by-expressions s table t buffer used o c =
+      by-table.check-judged s table (by-paper s table t) buffer used o (is .checks table buffer used o c)
+
+  pub check-valid : promised.CheckValid calls
+  check-valid s table t buffer used o c =
+      rw (check-by-expressions s table t buffer used o c) (valid-iff s table (by-paper s table t) buffer used)
+
+  pub edit-leaves : promised.EditLeaves calls
+  edit-leaves table buffer used q o p = always.edit-leaves table buffer used q o (is .performs table buffer used q o p)
+
+  pub edit-on-tree : promised.EditIsTreeEdit calls
+  edit-on-tree table buffer used q o p = on-tree.edit-on-tree table buffer used q o (is .performs table buffer used q o p)
+
+  -- ---- demand 3
+
+  pub translate-length : promised.TranslateLength calls
+  translate-length file table o t = by-file.translate-length file table o (is .translates file table o t)
+
+  pub translate-done : promised.TranslateDone calls
+  translate-done file table o t = by-file.translate-done file table o (is .translates file table o t)
+
+  pub translate-ambiguous : promised.TranslateAmbiguous calls
+  translate-ambiguous file table o t = by-file.translate-ambiguous file table o (is .translates file table o t)
+
+  pub translate-else : promised.TranslateElse calls
+  translate-else file table o t = by-file.translate-else file table o (is .translates file table o t)
+
+  pub table-proper : promised.TableProper calls
+  table-proper s table t = by-table.table-proper s table (by-paper s table t)
+
+  pub table-reads : promised.TableReads calls
+  table-reads s table t = by-table.table-reads s table (by-paper s table t)
+
+  -- a run of the calls is one of the paper's
+  runs-by-paper : (table buffer : List ℕ) (used : ℕ) (l : List (Request × Outcome)) → Runs calls table buffer used l → Runs papers table buffer used l
+  runs-by-paper table buffer used [] r = tt
+  runs-by-paper table buffer used (x ∷ l) (p, r) =
+      (is .performs table buffer used (x .0) (x .1) p, runs-by-paper table (x .1 .buffer) (x .1 .used) l r)
+
+  pub demand-3 : promised.Demand3 calls
+  demand-3 s table t buffer used v l r =
+      let u = by-paper s table t in
+      run-right s (valid-iff s table u) table u buffer used v l (runs-by-paper table buffer used l r)

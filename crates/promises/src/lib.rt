@@ -1,1 +1,1 @@
-// What is promised, in specs/: Statements says it, Proved cites its proof. There is no code here.
+// What is promised, in specs/: Statements says it, Theorems cites its proof. There is no code here.

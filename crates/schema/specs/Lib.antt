@@ -1,7 +1,6 @@
--- What the functions of the schema translator give, and the laws of its loops.
-pub mod Reading
-pub mod Symbols
-pub mod Model
-pub mod Attributes
+-- An element
 pub mod Element
+-- The elements
+pub mod Elements
+-- The whole
 pub mod Whole

@@ -1,66 +1,25 @@
 -- The reader of an element's content takes exactly what is written, and stops with 3 exactly at an ambiguous model.
 -- Assumes nothing.
-use mathlib.Core.Path.{_≡_, refl, ap, _∙_}
-use mathlib.Core.Bool.{Bool, true, false, cond, not, _&&_}
+use mathlib.Core.Path.{_≡_, refl, _∙_}
+use mathlib.Core.Bool.{Bool, true, false, cond, not, _&&_, and-eq-true-iff}
 use mathlib.Core.Option.{Option, none, some}
-use mathlib.Core.List.{List, [], _∷_, _++_}
+use mathlib.Core.List.{List, [], _∷_}
 use Prim.Native.Nat.{ℕ, zero, suc, _+_, _≤_, _<_}
 use native.Mathlib.Omega.{arith}
-use borrow.Author.Tests.{leb-true, le-leb, lt-leb, ltb-true, ltb-false, not-true}
-use lib.Dec.{leb, ltb, leb·zero}
+use borrow.Author.Tests.{leb-true, le-leb, not-true}
+use lib.Dec.{leb, ltb}
 use lib.ListN.{length}
 use Rattle.paper.specs.Basics.{mostElements, mostNames, between, all}
-use Rattle.paper.specs.Expressions.{Expr, name, seq, alt, opt, star, plus, names, count}
+use Rattle.paper.specs.Expressions.{Expr, names, count}
 use Rattle.paper.specs.Sets.{ambiguous}
 use Rattle.paper.specs.Schema.{symbolsOf, exprOf, Content, empty, text, model, ok, pure, refuse, modelled, mostSymbols, contentAs}
 use Rattle.paper.specs.SchemaWritten.{contentWritten, formedModel, formedContent}
-use Rattle.content_laws.specs.Symbols.{exprOf-iff}
-use Rattle.numbers.specs.Laws.{and-parts}
+use Rattle.content_laws.specs.Symbols.{symbols-some, exprOf-iff, range-names}
 use Rattle.schema_laws.specs.Written.{ahead, Ends, took, met, failed, Exact, then-takes, then-ends}
 use Rattle.schema_laws.specs.Rows.{number-exact, numbers-exact}
 
--- ---- symbols in range, and names below E
-
-and-assoc : (a b c : Bool) → a && (b && c) ≡ a && b && c
-and-assoc true b c = refl
-and-assoc false b c = refl
-
-all-append : {A : Type 0} (P : A → Bool) (l m : List A) → all P (l ++ m) ≡ all P l && all P m
-all-append P [] m = refl
-all-append P (x ∷ l) m = ap (λ b. P x && b) (all-append P l m) ∙ and-assoc (P x) (all P l) (all P m)
-
-module _ (E : ℕ) where
-  name-range : (a : ℕ) → between 0 (4 + E) (5 + a) ≡ ltb a E
-  name-range a = rw (leb·zero (5 + a)) (go (ltb a E) refl)
-    where
-      go : (b : Bool) → ltb a E ≡ b → leb (5 + a) (4 + E) ≡ b
-      go true p = let q = ltb-true a E p in le-leb (5 + a) (4 + E) (omega arith)
-      go false p = let q = ltb-false a E p in lt-leb (5 + a) (4 + E) (omega arith)
-
-  abbrev Same : List ℕ → List ℕ → Type 0
-  Same symbols l = all (between 0 (4 + E)) symbols ≡ all (λ a. ltb a E) l
-
-  both-names : (l m : List ℕ) (p q : List ℕ) → Same l p → Same m q → Same (l ++ m) (p ++ q)
-  both-names l m p q x y = rw (all-append (between 0 (4 + E)) l m, all-append (λ a. ltb a E) p q, x, y)
-
-  range-names : (e : Expr) → Same (symbolsOf e) (names e)
-  range-names (name a) = rw name-range
-  range-names (seq e f) = rw (le-leb 0 (4 + E) (omega arith)) (both-names (symbolsOf e) (symbolsOf f) (names e) (names f) (range-names e) (range-names f))
-  range-names (alt e f) = rw (le-leb 1 (4 + E) (omega arith)) (both-names (symbolsOf e) (symbolsOf f) (names e) (names f) (range-names e) (range-names f))
-  range-names (opt e) = rw (le-leb 2 (4 + E) (omega arith)) (range-names e)
-  range-names (star e) = rw (le-leb 3 (4 + E) (omega arith)) (range-names e)
-  range-names (plus e) = rw (le-leb 4 (4 + E) (omega arith)) (range-names e)
-
 some-symbols : (e : Expr) → leb 1 (length (symbolsOf e)) ≡ true
-some-symbols e = le-leb 1 (length (symbolsOf e)) (go e)
-  where
-    go : (e : Expr) → 1 ≤ length (symbolsOf e)
-    go (name a) = omega arith
-    go (seq e f) = omega arith
-    go (alt e f) = omega arith
-    go (opt e) = omega arith
-    go (star e) = omega arith
-    go (plus e) = omega arith
+some-symbols e = le-leb 1 (length (symbolsOf e)) (symbols-some e)
 
 -- ---- contents
 
@@ -86,13 +45,13 @@ kind-low text = refl
 kind-low (model e) = refl
 
 -- no model that is ambiguous
-abbrev pub clear : Content → Bool
-clear empty = true
-clear text = true
-clear (model e) = not (ambiguous e)
+abbrev pub unambiguous : Content → Bool
+unambiguous empty = true
+unambiguous text = true
+unambiguous (model e) = not (ambiguous e)
 
 abbrev pub fitContent : ℕ → Content → Bool
-fitContent E c = formedContent E c && clear c
+fitContent E c = formedContent E c && unambiguous c
 
 -- an ambiguous model in form stands in front, written by w
 pub record Tangled (E : ℕ) (w : Expr → List ℕ) (s : List ℕ) : Type 0 where
@@ -136,8 +95,8 @@ module _ (E : ℕ) (h : E ≤ mostElements) where
   model-read : (e : Expr) (r : List ℕ) (b : Bool) → formedModel E e ≡ true → ambiguous e ≡ b
       → contentAs E 2 (ahead (bodyOf (model e)) r) ≡ cond b (refuse 3) (pure (model e)) r
   model-read e r b p q =
-      let (u, small) = and-parts (leb (length (symbolsOf e)) mostSymbols && all (λ a. ltb a E) (names e)) (leb (count e) mostNames) p in
-      let (short, below) = and-parts (leb (length (symbolsOf e)) mostSymbols) (all (λ a. ltb a E) (names e)) u in
+      let (u, small) = and-eq-true-iff (leb (length (symbolsOf e)) mostSymbols && all (λ a. ltb a E) (names e)) (leb (count e) mostNames) .0 p in
+      let (short, below) = and-eq-true-iff (leb (length (symbolsOf e)) mostSymbols) (all (λ a. ltb a E) (names e)) .0 u in
       then-takes (number-exact 1 mostSymbols (omega arith)) _ (length (symbolsOf e)) _ (rw (some-symbols e) short)
       ∙ then-takes (numbers-exact 0 (4 + E) (omega arith) (length (symbolsOf e))) _ (symbolsOf e) r (refl, range-names E e ∙ below)
       ∙ rw (exprOf-iff (symbolsOf e) e .1 refl, small, q)
@@ -168,14 +127,14 @@ module _ (E : ℕ) (h : E ≤ mostElements) where
     ends = λ s b.
         then-ends (number-exact 1 mostSymbols (omega arith)) _ s b (λ z. absurd z) λ n t p good c.
         then-ends (numbers-exact 0 (4 + E) (omega arith) n) _ t c (λ z. absurd z) λ l r q fine d.
-        model-ends l r s (rw (fine .0) (cc)) (rw (fine .0) (and-parts (leb 1 n) (leb n mostSymbols) good .1)) (fine .1) (exprOf l) refl;
+        model-ends l r s (rw (fine .0) (cc)) (rw (fine .0) (and-eq-true-iff (leb 1 n) (leb n mostSymbols) .0 good .1)) (fine .1) (exprOf l) refl;
   }
     where
       takes : (c : Content) (r : List ℕ) → Fit 2 c → contentAs E 2 (ahead (bodyOf c) r) ≡ ok c r
       takes empty r p = let d = p .0 in absurd (omega arith)
       takes text r p = let d = p .0 in absurd (omega arith)
       takes (model e) r p =
-          let (fit, k) = and-parts (formedModel E e) (not (ambiguous e)) (p .1) in
+          let (fit, k) = and-eq-true-iff (formedModel E e) (not (ambiguous e)) .0 (p .1) in
           model-read e r false fit (not-true (ambiguous e) k)
 
   pub content-exact : (k : ℕ) → leb k 2 ≡ true → Contents k

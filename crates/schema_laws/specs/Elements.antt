@@ -1,6 +1,6 @@
 -- The readers of attributes and of elements take exactly what is written. Assumes nothing.
 use mathlib.Core.Path.{_≡_, refl, sym, ap, _∙_}
-use mathlib.Core.Bool.{Bool, true, false, cond, not, _&&_, _||_, true≢false}
+use mathlib.Core.Bool.{Bool, true, false, cond, not, _&&_, _||_, true≢false, and-eq-true-iff}
 use mathlib.Core.List.{List, [], _∷_, map}
 use Prim.Native.Nat.{ℕ, zero, suc, _-_, _≤_}
 use native.Mathlib.Omega.{arith}
@@ -10,10 +10,9 @@ use lib.ListN.{length}
 use Rattle.paper.specs.Basics.{mostElements, mostAttributes, between, all, concat}
 use Rattle.paper.specs.Schema.{Attribute, model, Element, ok, pure, refuse, number, kindAfter, attributesFrom, element, elementsOf}
 use Rattle.paper.specs.SchemaWritten.{attributeWritten, contentWritten, elementWritten, formedAttributes, formedContent, formedElement}
-use Rattle.numbers.specs.Laws.{and-parts}
 use Rattle.schema_laws.specs.Written.{ahead, ahead-join, Ends, took, failed, Exact, Nowhere, then-takes, then-stops, then-ends}
 use Rattle.schema_laws.specs.Rows.{number-exact, upto-exact, Amid, run-exact}
-use Rattle.schema_laws.specs.Contents.{kindOf, bodyOf, kind-body, kind-low, clear, fitContent, Tangled, content-exact}
+use Rattle.schema_laws.specs.Contents.{kindOf, bodyOf, kind-body, kind-low, unambiguous, fitContent, Tangled, content-exact}
 
 -- ---- attributes
 
@@ -24,7 +23,7 @@ fitKind had k = leb k 3 && not (had && eqb k 1)
 kind-exact : (had : Bool) → Exact (kindAfter had) (λ k. fitKind had k ≡ true) (λ k. k ∷ []) Nowhere
 kind-exact had = record {
   takes = λ k r p.
-      let (low, other) = and-parts (leb k 3) (not (had && eqb k 1)) p in
+      let (low, other) = and-eq-true-iff (leb k 3) (not (had && eqb k 1)) .0 p in
       then-takes (upto-exact 3 (omega arith)) _ k r low ∙ rw (not-true (had && eqb k 1) other);
   stops = λ s z. absurd z;
   ends = λ s b. then-ends (upto-exact 3 (omega arith)) _ s b (λ z. z) λ k r p low c. by s k r p low (had && eqb k 1) refl;
@@ -49,11 +48,11 @@ attributes-none low had = record { takes = takes; stops = λ s z. absurd z; ends
     takes (y ∷ l) r p = let d = p .0 in absurd (omega arith)
 
 -- the parts of an attribute's test
-five : (a b c d e : Bool) → a && b && c && d && e ≡ true → (a ≡ true) × (b && c ≡ true) × (d ≡ true) × (e ≡ true)
-five true true true d e h = let (p, q) = and-parts d e h in (refl, refl, p, q)
-five true true false d e h = absurd (true≢false (sym h))
-five true false c d e h = absurd (true≢false (sym h))
-five false b c d e h = absurd (true≢false (sym h))
+attribute-parts : (a b c d e : Bool) → a && b && c && d && e ≡ true → (a ≡ true) × (b && c ≡ true) × (d ≡ true) × (e ≡ true)
+attribute-parts true true true d e h = let (p, q) = and-eq-true-iff d e .0 h in (refl, refl, p, q)
+attribute-parts true true false d e h = absurd (true≢false (sym h))
+attribute-parts true false c d e h = absurd (true≢false (sym h))
+attribute-parts false b c d e h = absurd (true≢false (sym h))
 
 attributes-more : (n low : ℕ) (had : Bool) → ((low : ℕ) (had : Bool) → Attributes n low had) → Attributes (suc n) low had
 attributes-more n low had others = record {
@@ -64,7 +63,7 @@ attributes-more n low had others = record {
       then-ends (kind-exact had) _ t c (λ z. z) λ k u q kind d.
       then-ends status-of _ u d (λ z. z) λ i v x status y.
       then-ends (others (suc a) (had || eqb k 1)) _ v y (λ z. z) λ l r z fine j.
-      let (three, other) = and-parts (leb k 3) (not (had && eqb k 1)) kind in
+      let (three, other) = and-eq-true-iff (leb k 3) (not (had && eqb k 1)) .0 kind in
       took (record { number = a; kind = k; status = i } ∷ l) r (cc) (ap suc (fine .0), rw (good, three, other, status) (fine .1));
 }
   where
@@ -79,7 +78,7 @@ attributes-more n low had others = record {
     takes [] r p = let d = p .0 in absurd (omega arith)
     takes (y ∷ l) r p =
         let d = p .0 in
-        let (a, k, t, rest) = five _ _ _ _ _ (p .1) in
+        let (a, k, t, rest) = attribute-parts _ _ _ _ _ (p .1) in
         then-takes number-of _ (y .number) _ a
         ∙ then-takes (kind-exact had) _ (y .kind) _ k
         ∙ then-takes status-of _ (y .status) _ t
@@ -93,15 +92,15 @@ attributes-exact (suc n) low had = attributes-more n low had (λ l h. attributes
 
 -- in form, its model not ambiguous
 abbrev pub fit : ℕ → Element → Bool
-fit E x = formedElement E x && clear (x .content)
+fit E x = formedElement E x && unambiguous (x .content)
 
 module _ (E : ℕ) (h : E ≤ mostElements) where
   fit-parts : (x : Element) → fit E x ≡ true
       → (fitContent E (x .content) ≡ true) × (leb (length (x .attributes)) mostAttributes ≡ true) × (formedAttributes 0 false (x .attributes) ≡ true)
   fit-parts x p =
-      let (f, clean) = and-parts (formedElement E x) (clear (x .content)) p in
-      let (g, attributes) = and-parts (formedContent E (x .content) && leb (length (x .attributes)) mostAttributes) (formedAttributes 0 false (x .attributes)) f in
-      let (content, few) = and-parts (formedContent E (x .content)) (leb (length (x .attributes)) mostAttributes) g in
+      let (f, clean) = and-eq-true-iff (formedElement E x) (unambiguous (x .content)) .0 p in
+      let (g, attributes) = and-eq-true-iff (formedContent E (x .content) && leb (length (x .attributes)) mostAttributes) (formedAttributes 0 false (x .attributes)) .0 f in
+      let (content, few) = and-eq-true-iff (formedContent E (x .content)) (leb (length (x .attributes)) mostAttributes) .0 g in
       (rw (content, clean), few, attributes)
 
   element-exact : Exact (element E) (λ x. fit E x ≡ true) elementWritten (Tangled E (λ e. contentWritten (model e)))
@@ -122,7 +121,7 @@ module _ (E : ℕ) (h : E ≤ mostElements) where
         then-ends (content-exact E h k low) _ t c (λ q. around s k t p q) λ y u q good d.
         then-ends count-of _ u d (λ z. absurd z) λ n v i few j.
         then-ends (attributes-exact n 0 false) _ v j (λ z. absurd z) λ z r o fine m.
-        let (formed, clean) = and-parts (formedContent E y) (clear y) (good .1) in
+        let (formed, clean) = and-eq-true-iff (formedContent E y) (unambiguous y) .0 (good .1) in
         took (record { content = y; attributes = z }) r
         (rw (ahead-join, kind-body y, good .0, fine .0) (cc)) (rw (formed, fine .0, few, fine .1) clean);
   }

@@ -6,5 +6,5 @@ pub mod Rows
 pub mod Contents
 pub mod Elements
 -- the test for ambiguity, and what it means
-pub mod Clear
+pub mod Unambiguous
 pub mod Taken

@@ -1,6 +1,6 @@
 -- Readers of numbers, and of several things in a row, take exactly what is written. Assumes nothing.
 use mathlib.Core.Path.{_≡_, refl, ap, _∙_}
-use mathlib.Core.Bool.{Bool, true, false, cond}
+use mathlib.Core.Bool.{Bool, true, false, cond, and-eq-true-iff}
 use mathlib.Core.List.{List, [], _∷_, map}
 use Prim.Native.Nat.{ℕ, zero, suc, _≤_, _<_}
 use native.Mathlib.Omega.{arith}
@@ -10,13 +10,13 @@ use lib.ListN.{length}
 use Rattle.paper.specs.Basics.{between, all, concat}
 use Rattle.paper.specs.Files.{largest, Front, broken, got, front}
 use Rattle.paper.specs.Schema.{stop, ok, Reader, pure, onward, valued, number, numbers}
-use Rattle.numbers.specs.Laws.{bytes, and-parts, front-bytes, bytes-front}
+use Rattle.numbers.specs.Laws.{bytes, front-bytes, bytes-front}
 use Rattle.schema_laws.specs.Written.{ahead, ahead-join, Ends, took, failed, Exact, Nowhere, then-takes, then-stops, then-ends, same, reworded}
 
 -- ---- numbers
 
 pub in-range : (lo hi n : ℕ) → between lo hi n ≡ true → (lo ≤ n) × (n ≤ hi)
-in-range lo hi n p = let (a, b) = and-parts (leb lo n) (leb n hi) p in (leb-true lo n a, leb-true n hi b)
+in-range lo hi n p = let (a, b) = and-eq-true-iff (leb lo n) (leb n hi) .0 p in (leb-true lo n a, leb-true n hi b)
 
 pub number-exact : (lo hi : ℕ) → hi ≤ largest → Exact (number lo hi) (λ n. between lo hi n ≡ true) (λ n. n ∷ []) Nowhere
 unfolding number
@@ -76,7 +76,7 @@ module _ {A : Type 0} {m : Reader A} {P : A → Bool} {w : A → List ℕ} {X : 
       takes : (l : List A) (r : List ℕ) → (length l ≡ suc n) × (all P l ≡ true) → ms (suc n) (ahead (concat (map w l)) r) ≡ ok l r
       takes [] r p = let d = p .0 in absurd (omega arith)
       takes (a ∷ l) r p =
-          let (one, others) = and-parts (P a) (all P l) (p .1) in
+          let (one, others) = and-eq-true-iff (P a) (all P l) .0 (p .1) in
           let d = p .0 in
           rw (ahead-join (w a) (concat (map w l)) r) (next n _ ∙ then-takes x _ a _ one ∙ then-takes y _ l r (omega arith, others))
 
@@ -84,7 +84,7 @@ module _ {A : Type 0} {m : Reader A} {P : A → Bool} {w : A → List ℕ} {X : 
           → ms (suc n) (ahead (concat (map w before)) rest) ≡ stop 3
       stops [] rest few good here = next n rest ∙ then-stops x _ rest here
       stops (a ∷ before) rest few good here =
-          let (one, others) = and-parts (P a) (all P before) good in
+          let (one, others) = and-eq-true-iff (P a) (all P before) .0 good in
           rw (ahead-join (w a) (concat (map w before)) rest)
           (next n _ ∙ then-takes x _ a _ one
           ∙ then-stops y _ _ (record { before = before; rest = rest; few = omega arith; good = others; here = here; begins = refl }))

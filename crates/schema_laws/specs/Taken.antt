@@ -2,7 +2,7 @@
 -- of whose models is ambiguous; it is refused with 3 exactly if it begins so, up to a model that is ambiguous. Assumes nothing.
 use mathlib.Core.Path.{_≡_, refl, ap, _∙_}
 use mathlib.Core.Logic.{_↔_}
-use mathlib.Core.Bool.{true, _&&_}
+use mathlib.Core.Bool.{true, _&&_, and-eq-true-iff}
 use mathlib.Core.List.{List, [], _∷_, _++_, map}
 use Prim.Native.Nat.{ℕ, _-_}
 use native.Mathlib.Omega.{arith}
@@ -14,13 +14,13 @@ use Rattle.paper.specs.Files.{fileOf}
 use Rattle.paper.specs.Expressions.{Expr}
 use Rattle.paper.specs.Schema.{model, Element, Schema, stop, ok, number, finished, schemaOf}
 use Rattle.paper.specs.SchemaWritten.{contentWritten, elementWritten, schemaWritten, formedElement, formed, Unambiguous, MeetsAmbiguous}
-use Rattle.numbers.specs.Laws.{bytes, and-parts}
+use Rattle.numbers.specs.Laws.{bytes}
 use Rattle.schema_laws.specs.Written.{ahead, ahead-file, file-ahead, ahead-join, Ends, took, failed, Exact, Nowhere, took-form, met-there}
 use Rattle.schema_laws.specs.Written.{then-takes, then-stops, then-ends, same, reworded}
 use Rattle.schema_laws.specs.Rows.{in-range, number-exact, upto-exact, Amid}
 use Rattle.schema_laws.specs.Contents.{Tangled}
 use Rattle.schema_laws.specs.Elements.{fit, elements-exact}
-use Rattle.schema_laws.specs.Clear.{ambiguous-true, fit-all}
+use Rattle.schema_laws.specs.Unambiguous.{ambiguous-true, fit-all}
 
 -- ---- what is written
 
@@ -44,8 +44,8 @@ taken-of : (s : Schema) → formed s ≡ true → Unambiguous (s .elements) → 
 unfolding schemaOf
 taken-of s p h =
     let E = length (s .elements) in
-    let (q, forms) = and-parts (between 1 mostElements E && ltb (s .root) E) (all (formedElement E) (s .elements)) p in
-    let (good, low) = and-parts (between 1 mostElements E) (ltb (s .root) E) q in
+    let (q, forms) = and-eq-true-iff (between 1 mostElements E && ltb (s .root) E) (all (formedElement E) (s .elements)) .0 p in
+    let (good, low) = and-eq-true-iff (between 1 mostElements E) (ltb (s .root) E) .0 q in
     then-takes (number-exact 1 mostElements (omega arith)) _ E _ good
     ∙ then-takes (root-exact E good) _ (s .root) _ low
     ∙ then-takes (elements-exact E (in-range 1 mostElements E good .1) E) _ (s .elements) [] (refl, fit-all E (s .elements) .1 (forms, h))

@@ -11,7 +11,7 @@ use Rattle.paper.specs.Files.{bytesOf, fileOf}
 use Rattle.paper.specs.Schema.{Parsed, stop, ok, Reader, onward}
 use Rattle.numbers.specs.Laws.{bytes}
 use Rattle.table_laws.specs.Readers.{never-stop}
-use Rattle.table_laws.specs.Accepted.{all-split}
+use Rattle.paper_laws.specs.Basics.{all-parts}
 
 -- ---- bytes
 
@@ -40,7 +40,7 @@ ahead-join (n ∷ l) m r = ap (λ t. bytesOf n ++ t) (ahead-join l m r)
 
 bytes-behind : (l r : List ℕ) → bytes (ahead l r) ≡ true → bytes r ≡ true
 bytes-behind [] r h = h
-bytes-behind (n ∷ l) r h = bytes-behind l r (all-split (λ b. ltb b 256) (bytesOf n) (ahead l r) h .1)
+bytes-behind (n ∷ l) r h = bytes-behind l r (all-parts (λ b. ltb b 256) (bytesOf n) (ahead l r) h .1)
 
 -- ---- readers that take exactly what is written
 

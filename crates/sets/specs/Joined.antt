@@ -8,7 +8,7 @@ use lib.ListN.{length, getD, set, length-set}
 use lib.Bits.{bitOr, or-zero-r}
 use lib.Count.{trailingZeros}
 use Rattle.paper.specs.Sets.{bit, when}
-use Rattle.sets.specs.Laws.{bit-low, bit-half}
+use Rattle.paper_laws.specs.Words.{bit-low, bit-half}
 use Rattle.sets.specs.Lowest.{cleared, trailing-even, trailing-odd, cleared-even, cleared-odd, lowest-ind, turn}
 
 -- each word of the list whose place is a member of `from`, with the members of `to` in it
@@ -37,20 +37,17 @@ abbrev pub joinedOne : ℕ → ℕ → List ℕ → List ℕ
 joinedOne k to l = set l k (bitOr (getD l k 0) to)
 
 -- the lowest place first, and then the others
-pub joined-cleared : (n w : ℕ) → w < 2 ^ n → 0 < w → (to : ℕ) (l : List ℕ) → length l ≡ n
-    → joined (cleared w) to (joinedOne (trailingZeros n w) to l) ≡ joined w to l
-joined-cleared = lowest-ind
-    (λ n w. (to : ℕ) (l : List ℕ) → length l ≡ n → joined (cleared w) to (joinedOne (trailingZeros n w) to l) ≡ joined w to l) odd even
+abbrev Turned : ℕ → ℕ → Type 0
+Turned n w = (to : ℕ) (l : List ℕ) → length l ≡ n → joined (cleared w) to (joinedOne (trailingZeros n w) to l) ≡ joined w to l
+
+joined-cleared : (n w : ℕ) → w < 2 ^ n → 0 < w → Turned n w
+joined-cleared = lowest-ind Turned odd even
   where
-    odd : (n w : ℕ) → w / 2 < 2 ^ n → w % 2 ≡ 1 → (to : ℕ) (l : List ℕ) → length l ≡ suc n
-        → joined (cleared w) to (joinedOne (trailingZeros (suc n) w) to l) ≡ joined w to l
+    odd : (n w : ℕ) → w / 2 < 2 ^ n → w % 2 ≡ 1 → Turned (suc n) w
     odd n w h e to [] g = absurd (omega arith)
     odd n w h e to (x ∷ l) g = rw (trailing-odd n w e, cleared-odd w e .0, cleared-odd w e .1, e, or-zero-r (bitOr x to))
 
-    even : (n w : ℕ) → 0 < w → w % 2 ≡ 0
-        → ((to : ℕ) (l : List ℕ) → length l ≡ n → joined (cleared (w / 2)) to (joinedOne (trailingZeros n (w / 2)) to l) ≡ joined (w / 2) to l)
-        → (to : ℕ) (l : List ℕ) → length l ≡ suc n
-        → joined (cleared w) to (joinedOne (trailingZeros (suc n) w) to l) ≡ joined w to l
+    even : (n w : ℕ) → 0 < w → w % 2 ≡ 0 → Turned n (w / 2) → Turned (suc n) w
     even n w p e ih to [] g = absurd (omega arith)
     even n w p e ih to (x ∷ l) g = rw (trailing-even n w e, cleared-even w p e .0, cleared-even w p e .1, e, ih to l (omega arith))
 

@@ -1,6 +1,6 @@
--- Words as sets of numbers: the laws, over the width, and what the functions of src/ say.
--- Members by digits; union, meet, one member; equal words; subsets and sets apart; shifts
-pub mod Laws
+-- Words as sets of numbers: what the functions of src/ say, over the width. The laws of members stand in `paper_laws`.
+-- The union of three
+pub mod Union
 -- The lowest member, the word without it, and the count of members
 pub mod Lowest
 -- `within`, `apart` and `single` as code computes them

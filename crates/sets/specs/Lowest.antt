@@ -1,7 +1,7 @@
 -- The lowest member of a word: where it stands, the word without it, and how many members there are. A walk takes the lowest member
 -- out until none is left. Assumes nothing.
 use mathlib.Core.Path.{_≡_, refl, sym, ap, ap₂, _∙_}
-use mathlib.Core.Bool.{Bool, true, false, not, _&&_}
+use mathlib.Core.Bool.{Bool, true, false, not, _&&_, and-true, and-false, and-eq-true-iff}
 use mathlib.Core.Logic.{_⊎_, inl, inr, _↔_}
 use Prim.Native.Nat.{ℕ, zero, suc, _+_, _-_, _/_, _%_, _^_, _≤_, _<_}
 use native.Mathlib.Omega.{arith}
@@ -12,16 +12,12 @@ use lib.Pow.{pow-pos}
 use lib.Bits.{bitAnd, and-shr, and-mod, and-self, and-le-r}
 use lib.Count.{ones, ones-step, trailingZeros, under}
 use Rattle.paper.specs.Sets.{bit}
-use Rattle.sets.specs.Laws.{clash, and-parts, fails, digit-cases, bit-low, bit-half, half-lt, bit-zero, bit-below, same-bits}
+use Rattle.paper_laws.specs.Words.{digit-cases, bit-low, bit-half, half-lt, bit-zero, bit-below, same-bits}
+use Rattle.basic_laws.specs.Bools.{clash, fails}
 
 -- the word without its lowest member, as code takes it out
 abbrev pub cleared : ℕ → ℕ
 cleared w = bitAnd w (w - 1)
-
--- t is the lowest member of w
-pub record Least (w t : ℕ) : Type 0 where
-  pub there : bit w t ≡ true
-  pub below : (j : ℕ) → j < t → bit w j ≡ false
 
 -- ---- one digit at a time
 
@@ -53,38 +49,23 @@ lowest-ind P odd even (suc n) w h p = elim (digit-cases w) [
   | inr e ↦ odd n w (half-lt n h) e
 ]
 
--- ---- `trailing_zeros` is the lowest member
+-- ---- `trailing_zeros` is a member, the lowest
 
-pub trailing-least : (n w : ℕ) → w < 2 ^ n → 0 < w → Least w (trailingZeros n w)
-trailing-least = lowest-ind (λ n w. Least w (trailingZeros n w))
-    (λ n w h e. rw (trailing-odd n w e) (record { there = bit-low w ∙ eq-eqb (w % 2) 1 e; below = λ j i. absurd (omega arith) }))
-    (λ n w p e l. rw (trailing-even n w e) (record { there = bit-half w (trailingZeros n (w / 2)) ∙ l .there; below = low n w e l }))
-  where
-    low : (n w : ℕ) → w % 2 ≡ 0 → Least (w / 2) (trailingZeros n (w / 2)) → (j : ℕ) → j < suc (trailingZeros n (w / 2)) → bit w j ≡ false
-    low n w e l zero i = bit-low w ∙ rw e
-    low n w e l (suc j) i = bit-half w j ∙ l .below j (omega arith)
-
-pub trailing-below : (n w : ℕ) → w < 2 ^ n → 0 < w → trailingZeros n w < n
-trailing-below n w h p = bit-below n w (trailingZeros n w) h (trailing-least n w h p .there)
+trailing-there : (n w : ℕ) → w < 2 ^ n → 0 < w → bit w (trailingZeros n w) ≡ true
+trailing-there = lowest-ind (λ n w. bit w (trailingZeros n w) ≡ true)
+    (λ n w h e. rw (trailing-odd n w e) (bit-low w ∙ eq-eqb (w % 2) 1 e))
+    (λ n w p e m. rw (trailing-even n w e) (bit-half w (trailingZeros n (w / 2)) ∙ m))
 
 -- ---- `w & (w - 1)` takes it out
 
-pub bit-cleared : (n w : ℕ) → w < 2 ^ n → 0 < w → (j : ℕ) → bit (cleared w) j ≡ (bit w j && not (eqb j (trailingZeros n w)))
+bit-cleared : (n w : ℕ) → w < 2 ^ n → 0 < w → (j : ℕ) → bit (cleared w) j ≡ (bit w j && not (eqb j (trailingZeros n w)))
 bit-cleared = lowest-ind (λ n w. (j : ℕ) → bit (cleared w) j ≡ (bit w j && not (eqb j (trailingZeros n w))))
     (λ n w h e j. rw (trailing-odd n w e) (odd w e j))
     (λ n w p e ih j. rw (trailing-even n w e) (even n w p e ih j))
   where
     odd : (w : ℕ) → w % 2 ≡ 1 → (j : ℕ) → bit (cleared w) j ≡ (bit w j && not (eqb j 0))
-    odd w e zero = bit-low (cleared w) ∙ ap (λ d. eqb d 1) (cleared-odd w e .0) ∙ sym (none (bit w 0))
-      where
-        none : (b : Bool) → (b && false) ≡ false
-        none true = refl
-        none false = refl
-    odd w e (suc j) = bit-half (cleared w) j ∙ ap (λ v. bit v j) (cleared-odd w e .1) ∙ sym (bit-half w j) ∙ rw (eqb·suc-zero j) (sym (same (bit w (suc j))))
-      where
-        same : (b : Bool) → (b && true) ≡ b
-        same true = refl
-        same false = refl
+    odd w e zero = bit-low (cleared w) ∙ ap (λ d. eqb d 1) (cleared-odd w e .0) ∙ sym (and-false (bit w 0))
+    odd w e (suc j) = bit-half (cleared w) j ∙ ap (λ v. bit v j) (cleared-odd w e .1) ∙ sym (bit-half w j) ∙ rw (eqb·suc-zero j) (sym (and-true (bit w (suc j))))
 
     even : (n w : ℕ) → 0 < w → w % 2 ≡ 0 → ((j : ℕ) → bit (cleared (w / 2)) j ≡ (bit (w / 2) j && not (eqb j (trailingZeros n (w / 2)))))
         → (j : ℕ) → bit (cleared w) j ≡ (bit w j && not (eqb j (suc (trailingZeros n (w / 2)))))
@@ -94,13 +75,13 @@ bit-cleared = lowest-ind (λ n w. (j : ℕ) → bit (cleared w) j ≡ (bit w j &
         ∙ ap₂ (λ a b. a && not b) (sym (bit-half w j)) (sym (eqb·suc-suc j (trailingZeros n (w / 2))))
 
 -- and leaves less, so that a walk ends
-pub cleared-lt : (w : ℕ) → 0 < w → cleared w < w
+cleared-lt : (w : ℕ) → 0 < w → cleared w < w
 cleared-lt w p = omega (arith, and-le-r w (w - 1))
 
 -- ---- one turn of a walk, with `k = trailing_zeros(w)` and `w & (w - 1)` left
 
 pub record Turn (n w : ℕ) : Type 0 where
-  pub least : Least w (trailingZeros n w)
+  pub there : bit w (trailingZeros n w) ≡ true
   pub small : trailingZeros n w < n
   pub less : cleared w < w
   pub fits : cleared w < 2 ^ n
@@ -112,11 +93,11 @@ turn n w h z =
     let p : 0 < w = omega arith in
     let l : cleared w < w = cleared-lt w p in
     record {
-      least = trailing-least n w h p;
-      small = trailing-below n w h p;
+      there = trailing-there n w h p;
+      small = bit-below n w (trailingZeros n w) h (trailing-there n w h p);
       less = l;
       fits = omega arith;
-      kept = λ j m. and-parts (bit w j) (not (eqb j (trailingZeros n w))) (sym (bit-cleared n w h p j) ∙ m) .0;
+      kept = λ j m. and-eq-true-iff (bit w j) (not (eqb j (trailingZeros n w))) .0 (sym (bit-cleared n w h p j) ∙ m) .0;
       either = λ j m. cases j m (eqb j (trailingZeros n w)) refl p;
     }
   where
@@ -126,16 +107,16 @@ turn n w h z =
 
 -- ---- `count_ones`
 
-pub ones-zero : ones 0 ≡ 0
+ones-zero : ones 0 ≡ 0
 unfolding ones
 ones-zero = refl
 
-pub ones-none : (w : ℕ) → ones w ≡ 0 → w ≡ 0
+ones-none : (w : ℕ) → ones w ≡ 0 → w ≡ 0
 ones-none = bin-ind (λ w. ones w ≡ 0 → w ≡ 0) (λ e. refl)
     (λ w ih e. let s : ones w ≡ w % 2 + ones (w / 2) = ones-step w in let h : w / 2 ≡ 0 = ih (omega arith) in omega arith)
 
 -- one more than without the lowest
-pub ones-cleared : (n w : ℕ) → w < 2 ^ n → 0 < w → ones w ≡ suc (ones (cleared w))
+ones-cleared : (n w : ℕ) → w < 2 ^ n → 0 < w → ones w ≡ suc (ones (cleared w))
 ones-cleared = lowest-ind (λ n w. ones w ≡ suc (ones (cleared w)))
     (λ n w h e. let (a, b) = cleared-odd w e in let c : ones (cleared w / 2) ≡ ones (w / 2) = ap ones b in omega (arith, ones-step w, ones-step (cleared w)))
     (λ n w p e ih. let (a, b) = cleared-even w p e in let c : ones (cleared w / 2) ≡ ones (cleared (w / 2)) = ap ones b in omega (arith, ones-step w, ones-step (cleared w)))
@@ -163,4 +144,4 @@ single-iff n (suc v) h =
         twice : (k : ℕ) → bit (cleared (suc v)) k ≡ true → bit (cleared (suc v)) k ≡ false
         twice k m =
             bit-cleared n (suc v) h (omega arith) k
-            ∙ rw (t .kept k m, eq-eqb k (trailingZeros n (suc v)) (f k (trailingZeros n (suc v)) (t .kept k m) (t .least .there)))
+            ∙ rw (t .kept k m, eq-eqb k (trailingZeros n (suc v)) (f k (trailingZeros n (suc v)) (t .kept k m) (t .there)))

@@ -1,10 +1,10 @@
 -- Whether a set's names differ, by a walk that keeps the set of the names seen. Assumes nothing.
 use mathlib.Core.Path.{_≡_, refl, sym, ap, ap₂, _∙_}
-use mathlib.Core.Bool.{Bool, true, false, not, _&&_, _||_}
+use mathlib.Core.Bool.{Bool, true, false, not, _&&_, _||_, and-eq-true-iff}
 use mathlib.Core.List.{List, [], _∷_}
 use Prim.Native.Nat.{ℕ, _^_, _<_}
 use native.Mathlib.Omega.{arith}
-use borrow.Author.Tests.{ltb-true, eqb-true, eq-eqb}
+use borrow.Author.Tests.{ltb-true}
 use lib.Dec.{ltb, eqb}
 use lib.ListN.{length, getD}
 use lib.Bits.{bitOr}
@@ -12,7 +12,8 @@ use lib.Count.{trailingZeros}
 use Rattle.paper.specs.Basics.{all, elem, distinct}
 use Rattle.paper.specs.Sets.{bit}
 use Rattle.paper.specs.Table.{chosen}
-use Rattle.sets.specs.Laws.{and-parts, same-test, bit-or, bit-zero, bit-one}
+use Rattle.paper_laws.specs.Words.{bit-or, bit-zero, bit-one}
+use Rattle.basic_laws.specs.Numbers.{eqb-sym}
 use Rattle.sets.specs.Lowest.{cleared, turn}
 use Rattle.sets.specs.Chosen.{small, chosen-none, chosen-cleared}
 
@@ -28,13 +29,10 @@ unseen-none l = parts 0 l ∙ ap (λ b. b && distinct l) (none l)
     none [] = refl
     none (a ∷ l) = rw (bit-zero a) (none l)
 
-    turned : (a b : ℕ) → eqb a b ≡ eqb b a
-    turned a b = same-test (eqb a b) (eqb b a) (λ e. eq-eqb b a (sym (eqb-true a b e))) (λ e. eq-eqb a b (sym (eqb-true b a e)))
-
     also : (seen a : ℕ) (l : List ℕ) → all (λ x. not (bit (bitOr seen (2 ^ a)) x)) l ≡ (not (elem a l) && all (λ x. not (bit seen x)) l)
     also seen a [] = refl
     also seen a (x ∷ l) =
-        ap₂ (λ b r. not b && r) (bit-or seen (2 ^ a) x ∙ ap (λ b. bit seen x || b) (bit-one a x ∙ turned x a)) (also seen a l)
+        ap₂ (λ b r. not b && r) (bit-or seen (2 ^ a) x ∙ ap (λ b. bit seen x || b) (bit-one a x ∙ eqb-sym x a)) (also seen a l)
         ∙ go (bit seen x) (eqb a x) (elem a l) (all (λ x. not (bit seen x)) l)
       where
         go : (s e r t : Bool) → (not (s || e) && (not r && t)) ≡ (not (e || r) && (not s && t))
@@ -79,7 +77,7 @@ module _ (names : List ℕ) (answer : Bool) (rest seen : ℕ) (s : Seeing names 
     next = chosen-cleared 64 rest (s .fits) (omega arith) names long
 
     lows : (ltb name 64 ≡ true) × (small (chosen (cleared rest) names) ≡ true)
-    lows = and-parts (ltb name 64) (small (chosen (cleared rest) names)) (sym (ap small next) ∙ s .low)
+    lows = and-eq-true-iff (ltb name 64) (small (chosen (cleared rest) names)) .0 (sym (ap small next) ∙ s .low)
 
     sames : (not (bit seen name) && unseen (bitOr seen (2 ^ name)) (chosen (cleared rest) names)) ≡ answer
     sames = sym (ap (unseen seen) next) ∙ s .same

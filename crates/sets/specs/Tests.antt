@@ -1,9 +1,8 @@
 -- The paper's tests of sets, as code computes them, over the width; the paper's `within`, `apart` and `single` are these at 64.
 -- Assumes nothing.
-use mathlib.Core.Path.{_≡_, refl, ap}
-use mathlib.Core.Bool.{Bool, true, false, not, _&&_, _||_}
-use mathlib.Core.Logic.{_↔_}
-use Prim.Native.Nat.{ℕ, zero, suc, _^_, _≤_, _<_}
+use mathlib.Core.Path.{_≡_, ap}
+use mathlib.Core.Bool.{Bool, true, not, _&&_, _||_}
+use Prim.Native.Nat.{ℕ, _^_, _≤_, _<_}
 use native.Mathlib.Decide.{decLt}
 use native.Mathlib.Omega.{arith}
 use borrow.Author.Tests.{eqb-true, eq-eqb, leb-true, le-leb, not-true}
@@ -12,26 +11,10 @@ use lib.Bits.{bitAnd}
 use lib.Count.{ones}
 use Rattle.paper.specs.Basics.{every}
 use Rattle.paper.specs.Sets.{bit}
-use Rattle.sets.specs.Laws.{clash, and-parts, same-test, fails, bit-below, within-iff, apart-iff}
+use Rattle.paper_laws.specs.Basics.{every-iff}
+use Rattle.paper_laws.specs.Words.{bit-below, within-iff, apart-iff}
+use Rattle.basic_laws.specs.Bools.{implies, clash, same-test, fails}
 use Rattle.sets.specs.Lowest.{single-iff}
-
-pub every-iff : (S : ℕ → Bool) (n : ℕ) → (every S n ≡ true) ↔ ((k : ℕ) → k < n → S k ≡ true)
-every-iff S n = (there n, back n)
-  where
-    there : (n : ℕ) → every S n ≡ true → (k : ℕ) → k < n → S k ≡ true
-    there zero e k h = absurd (omega arith)
-    there (suc n) e k h =
-        let (a, b) = and-parts (S n) (every S n) e in
-        elim (decLt k n) [ yes l ↦ there n b k l | no l ↦ let q : k ≡ n = omega arith in rw q a ]
-
-    back : (n : ℕ) → ((k : ℕ) → k < n → S k ≡ true) → every S n ≡ true
-    back zero f = refl
-    back (suc n) f = rw (f n (omega arith)) (back n (λ k h. f k (omega arith)))
-
--- `not a || b` says that b holds where a does
-pub implies : (a b : Bool) → (not a || b ≡ true) ↔ (a ≡ true → b ≡ true)
-implies true b = (λ e q. e, λ f. f refl)
-implies false b = (λ e q. clash q refl, λ f. refl)
 
 module _ (n a b : ℕ) (h : a < 2 ^ n) where
   -- `within`: `a & b == a`

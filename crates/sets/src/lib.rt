@@ -10,11 +10,12 @@ ghost use lib.ListN.{length};
 ghost use lib.Bits.{bitOr};
 ghost use Rattle.paper.specs.Basics.{distinct};
 ghost use Rattle.paper.specs.Sets.{bit};
+ghost use Rattle.paper.specs.Sets;
 ghost use Rattle.paper.specs.Table.{within, apart, single, chosen};
 ghost use Rattle.sets.specs.Lowest.{cleared};
 ghost use Rattle.sets.specs.Joined.{joined};
 ghost use Rattle.sets.specs.Chosen.{small};
-ghost use Rattle.sets.specs.Named.{Named};
+ghost use Rattle.sets.specs.Named.{nextNamed};
 
 // k is a member of the set.
 pub fn has(set: u64, k: u32) -> bool
@@ -71,6 +72,16 @@ pub fn with(set: u64, k: u32) -> u64
     set | one(k)
 }
 
+// The set if the test holds, and else none.
+pub fn when(test: bool, set: u64) -> u64
+    ensures { λ r. ⌜ r ≡ Sets.when test set ⌝ }
+{
+    if test {
+        return set;
+    }
+    0
+}
+
 // The set without its lowest member.
 pub fn without_lowest(set: u64) -> u64
     requires { ⌜ 0 < set ⌝ }
@@ -120,7 +131,7 @@ pub enum Next {
 // The lowest member that has the name.
 pub fn next_named(set: u64, names: &[u64], name: u64) -> Next
     requires { ⌜ length (now names) ≡ 64 ⌝ }
-    ensures { λ r. ⌜ Named set (now (names .entry)) name r ⌝ }
+    ensures { λ r. ⌜ r ≡ nextNamed set (now (names .entry)) name ⌝ }
 {
     let mut rest = set;
     while rest != 0 {

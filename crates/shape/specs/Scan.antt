@@ -4,16 +4,20 @@ use mathlib.Core.List.{List, [], _∷_}
 use Prim.Native.Nat.{ℕ, _+_, _-_, _*_, _/_, _%_, _^_}
 use lib.Dec.{leb, ltb, eqb}
 use lib.ListN.{getD}
-use Rattle.paper.specs.Basics.{mostDeep}
+use Rattle.paper.specs.Basics.{mostDeep, mostNumber}
 use Rattle.shape.specs.declared.Scan.{Scan}
 
 -- ---- the table
+
+-- the numbers that a token can have, from 0 on
+abbrev all : ℕ
+all = mostNumber + 1
 
 -- five rows of eight numbers, one for each sort
 unfoldable pub rules : List (List ℕ)
 rules =
     (0 ∷ 30 ∷ 14 ∷ 14 ∷ 32 ∷ 62 ∷ 0 ∷ 0 ∷ [])
-    ∷ (0 ∷ 65536 ∷ 1 ∷ 65536 ∷ 65536 ∷ 65536 ∷ 0 ∷ 0 ∷ [])
+    ∷ (0 ∷ all ∷ 1 ∷ all ∷ all ∷ all ∷ 0 ∷ 0 ∷ [])
     ∷ (1 ∷ 2 ∷ 0 ∷ 1 ∷ 1 ∷ 1 ∷ 1 ∷ 1 ∷ [])
     ∷ (0 ∷ 0 ∷ 0 ∷ 0 ∷ 1 ∷ 0 ∷ 0 ∷ 0 ∷ [])
     ∷ (0 ∷ 0 ∷ 0 ∷ 0 ∷ 0 ∷ 1 ∷ 0 ∷ 0 ∷ [])

@@ -1,209 +1,25 @@
--- Set and drop: where an attribute stands among those of its element, what is cut, and that the shape is kept.
-use mathlib.Core.Path.{_≡_, refl, sym, ap, ap₂, _∙_, subst}
-use mathlib.Core.Bool.{Bool, true, false, cond, not}
+-- Set and drop: what is cut, and that the shape is kept. Assumes nothing.
+use mathlib.Core.Path.{_≡_, refl, sym, ap, ap₂, _∙_}
+use mathlib.Core.Bool.{Bool, true, false}
 use mathlib.Core.List.{List, [], _∷_, _++_}
 use mathlib.Core.Logic.{_⊎_, inl, inr}
-use Prim.Native.Nat.{ℕ, zero, suc, _+_, _≤_, _<_, pred}
+use Prim.Native.Nat.{ℕ, zero, suc, _+_, _<_, pred}
 use native.Mathlib.Omega.{arith}
-use native.Mathlib.Nat.{suc-add, zero-add}
-use borrow.Author.Tests.{ltb-true, ltb-false, lt-ltb, eqb-true, eqb-false, not-true}
-use lib.Dec.{ltb, eqb}
-use lib.ListN.{length, take, drop, take-append-drop, length-drop}
-use lib.Seq.{drop-drop, take-length, take-add, take-at, length-take-le}
+use native.Mathlib.Nat.{suc-add}
+use lib.Dec.{eqb}
+use lib.ListN.{length, take, drop, take-append-drop}
+use lib.Seq.{drop-drop, take-length, take-add}
 use Rattle.paper.specs.declared.Tok.{Tok}
 use Rattle.paper.specs.declared.Tok.the-variants.{Start, End, Text, Attr, Value, Bad}
 use Rattle.paper.specs.Shape.{Phase, Head, Named, Valued, Body, Fail}
-use Rattle.shape_laws.specs.Keep.{element-made, element-parts, fails, keep-end, phases-append, ready-content, was-ready}
-use Rattle.shape_laws.specs.Local.{clash}
-use Rattle.shape_laws.specs.Splice.{from-start, parts}
+use Rattle.shape_laws.specs.Phases.{phases-append, ready-content, was-ready}
+use Rattle.shape_laws.specs.Keep.{element-made, element-parts, from-start, keep-end}
+use Rattle.shape_laws.specs.Slots.{settled, later, agree, to-slot, Held, at-held}
+use Rattle.shape_laws.specs.Splice.{parts}
 use Rattle.paper.specs.Edits.{attrAt, attrCut, splice}
 use Rattle.paper.specs.Shape.{isBody, isElement, phaseOf, phases}
-use Rattle.paper.specs.Tokens.{balanced, held, isStart, parent, slot, values}
-
--- ---- the phases around the attribute a
-
--- every attribute so far is below a
-abbrev under : ℕ → Phase → Bool
-under a Head = true
-under a (Named b) = ltb b a
-under a (Valued b) = ltb b a
-under a Body = false
-under a Fail = false
-
--- and the last one has its values
-abbrev settled : ℕ → Phase → Bool
-settled a Head = true
-settled a (Named b) = false
-settled a (Valued b) = ltb b a
-settled a Body = false
-settled a Fail = false
-
--- what may stand after a and its values
-abbrev later : ℕ → List Tok → Bool
-later a [] = false
-later a (Attr n ∷ r) = ltb a n
-later a (Value v ∷ r) = false
-later a (Start n ∷ r) = true
-later a (End ∷ r) = true
-later a (Text n ∷ r) = true
-later a (Bad ∷ r) = false
-
--- where a stands, or would: no value, and no attribute below a
-abbrev due : ℕ → List Tok → Bool
-due a [] = false
-due a (Attr n ∷ r) = not (ltb n a)
-due a (Value v ∷ r) = false
-due a (Start n ∷ r) = true
-due a (End ∷ r) = true
-due a (Text n ∷ r) = true
-due a (Bad ∷ r) = false
-
--- with or without a, the rest goes the same way
-agree : (a : ℕ) (q : Phase) (r : List Tok) → settled a q ≡ true → later a r ≡ true → phases q r ≡ phases (Valued a) r
-agree a q [] s l = clash l refl
-agree a Head (Attr n ∷ r) s l = rw l
-agree a (Named b) (Attr n ∷ r) s l = clash s refl
-agree a (Valued b) (Attr n ∷ r) s l = rw (l, lt-ltb b n (omega (arith, ltb-true a n l, ltb-true b a s)))
-agree a Body (Attr n ∷ r) s l = clash s refl
-agree a Fail (Attr n ∷ r) s l = clash s refl
-agree a q (Value v ∷ r) s l = clash l refl
-agree a Head (Start n ∷ r) s l = refl
-agree a (Named b) (Start n ∷ r) s l = clash s refl
-agree a (Valued b) (Start n ∷ r) s l = refl
-agree a Body (Start n ∷ r) s l = clash s refl
-agree a Fail (Start n ∷ r) s l = clash s refl
-agree a Head (End ∷ r) s l = refl
-agree a (Named b) (End ∷ r) s l = clash s refl
-agree a (Valued b) (End ∷ r) s l = refl
-agree a Body (End ∷ r) s l = clash s refl
-agree a Fail (End ∷ r) s l = clash s refl
-agree a Head (Text n ∷ r) s l = refl
-agree a (Named b) (Text n ∷ r) s l = clash s refl
-agree a (Valued b) (Text n ∷ r) s l = refl
-agree a Body (Text n ∷ r) s l = clash s refl
-agree a Fail (Text n ∷ r) s l = clash s refl
-agree a q (Bad ∷ r) s l = clash l refl
-
--- at the slot the attributes before are settled, and a is due
-record Slot (a : ℕ) (q : Phase) (r : List Tok) : Type 0 where
-  calm : settled a q ≡ true
-  meets : due a r ≡ true
-  well : isBody (phases q r) ≡ true
-
-failing : {A : Type 0} (r : List Tok) → isBody (phases Fail r) ≡ true → A
-failing r e = clash e (ap isBody (fails r))
-
-calm-here : (a : ℕ) (q : Phase) (t : Tok) (r : List Tok) → under a q ≡ true → due a (t ∷ r) ≡ true → isBody (phases q (t ∷ r)) ≡ true → Slot a q (t ∷ r)
-calm-here a Head t r u d e = record { calm = refl; meets = d; well = e }
-calm-here a (Named b) (Start n) r u d e = failing r e
-calm-here a (Named b) End r u d e = failing r e
-calm-here a (Named b) (Text n) r u d e = failing r e
-calm-here a (Named b) (Attr n) r u d e = failing r e
-calm-here a (Named b) (Value v) r u d e = clash d refl
-calm-here a (Named b) Bad r u d e = failing r e
-calm-here a (Valued b) t r u d e = record { calm = u; meets = d; well = e }
-calm-here a Body t r u d e = clash u refl
-calm-here a Fail t r u d e = clash u refl
-
--- an attribute that a good document has
-named-next : (q : Phase) (n : ℕ) (r : List Tok) → isBody (phases q (Attr n ∷ r)) ≡ true → phaseOf q (Attr n) ≡ Named n
-named-next Head n r e = refl
-named-next (Named b) n r e = failing r e
-named-next (Valued b) n r e = go (ltb b n) refl
-  where
-    go : (z : Bool) → ltb b n ≡ z → cond (ltb b n) (Named n) Fail ≡ Named n
-    go true f = rw f
-    go false f = failing r (rw f at e)
-named-next Body n r e = failing r e
-named-next Fail n r e = failing r e
-
-bad-fails : (q : Phase) → phaseOf q Bad ≡ Fail
-bad-fails Head = refl
-bad-fails (Named b) = refl
-bad-fails (Valued b) = refl
-bad-fails Body = refl
-bad-fails Fail = refl
-
-at-attr : (a : ℕ) (q : Phase) (n : ℕ) (r : List Tok) → under a q ≡ true → isBody (phases q (Attr n ∷ r)) ≡ true
-    → (under a (Named n) ≡ true → isBody (phases (Named n) r) ≡ true → Slot a (phases (Named n) (take (slot a r) r)) (drop (slot a r) r))
-    → Slot a (phases q (take (slot a (Attr n ∷ r)) (Attr n ∷ r))) (drop (slot a (Attr n ∷ r)) (Attr n ∷ r))
-at-attr a q n r u e f = go (ltb n a) refl
-  where
-    next : phaseOf q (Attr n) ≡ Named n
-    next = named-next q n r e
-
-    go : (z : Bool) → ltb n a ≡ z → Slot a (phases q (take (slot a (Attr n ∷ r)) (Attr n ∷ r))) (drop (slot a (Attr n ∷ r)) (Attr n ∷ r))
-    go true l = rw l (subst (λ z. Slot a (phases z (take (slot a r) r)) (drop (slot a r) r)) (sym next) (f l (rw next at e)))
-    go false l = rw l (calm-here a q (Attr n) r u (ap not l) e)
-
-to-slot : (a : ℕ) (q : Phase) (r : List Tok) → under a q ≡ true → isBody (phases q r) ≡ true → Slot a (phases q (take (slot a r) r)) (drop (slot a r) r)
-to-slot a Head [] u e = clash e refl
-to-slot a (Named b) [] u e = clash e refl
-to-slot a (Valued b) [] u e = clash e refl
-to-slot a Body [] u e = clash u refl
-to-slot a Fail [] u e = clash u refl
-to-slot a q (Start n ∷ r) u e = calm-here a q (Start n) r u refl e
-to-slot a q (End ∷ r) u e = calm-here a q End r u refl e
-to-slot a q (Text n ∷ r) u e = calm-here a q (Text n) r u refl e
-to-slot a q (Bad ∷ r) u e = failing r (rw (bad-fails q) at e)
-to-slot a Head (Value v ∷ r) u e = failing r e
-to-slot a (Named b) (Value v ∷ r) u e = to-slot a (Valued b) r u e
-to-slot a (Valued b) (Value v ∷ r) u e = to-slot a (Valued b) r u e
-to-slot a Body (Value v ∷ r) u e = clash u refl
-to-slot a Fail (Value v ∷ r) u e = clash u refl
-to-slot a q (Attr n ∷ r) u e = at-attr a q n r u e (λ v f. to-slot a (Named n) r v f)
-
--- ---- what is cut: the attribute a with its values, or nothing
-
--- after the values of a
-after-values : (a : ℕ) (r : List Tok) → isBody (phases (Valued a) r) ≡ true
-    → (phases (Valued a) (take (values r) r) ≡ Valued a) × (later a (drop (values r) r) ≡ true)
-after-values a [] e = clash e refl
-after-values a (Attr n ∷ r) e = (refl, go (ltb a n) refl)
-  where
-    go : (z : Bool) → ltb a n ≡ z → ltb a n ≡ true
-    go true f = f
-    go false f = failing r (rw f at e)
-after-values a (Value v ∷ r) e = after-values a r e
-after-values a (Start n ∷ r) e = (refl, refl)
-after-values a (End ∷ r) e = (refl, refl)
-after-values a (Text n ∷ r) e = (refl, refl)
-after-values a (Bad ∷ r) e = failing r e
-
-after-name : (a : ℕ) (r : List Tok) → isBody (phases (Named a) r) ≡ true
-    → (phases (Named a) (take (values r) r) ≡ Valued a) × (later a (drop (values r) r) ≡ true)
-after-name a [] e = clash e refl
-after-name a (Attr n ∷ r) e = failing r e
-after-name a (Value v ∷ r) e = after-values a r e
-after-name a (Start n ∷ r) e = failing r e
-after-name a (End ∷ r) e = failing r e
-after-name a (Text n ∷ r) e = failing r e
-after-name a (Bad ∷ r) e = failing r e
-
--- h tokens of r, at the phase q, are nothing or the attribute a
-pub record Held (a : ℕ) (q : Phase) (h : ℕ) (r : List Tok) : Type 0 where
-  pub calm : settled a q ≡ true
-  pub ends : (h ≡ 0) ⊎ (phases q (take h r) ≡ Valued a)
-  pub rest : later a (drop h r) ≡ true
-
-at-held : (a : ℕ) (q : Phase) (r : List Tok) → Slot a q r → Held a q (held a r) r
-at-held a q [] s = clash (s .meets) refl
-at-held a q (Start n ∷ r) s = record { calm = s .calm; ends = inl refl; rest = refl }
-at-held a q (End ∷ r) s = record { calm = s .calm; ends = inl refl; rest = refl }
-at-held a q (Text n ∷ r) s = record { calm = s .calm; ends = inl refl; rest = refl }
-at-held a q (Value v ∷ r) s = clash (s .meets) refl
-at-held a q (Bad ∷ r) s = clash (s .meets) refl
-at-held a q (Attr n ∷ r) s = go (eqb n a) refl
-  where
-    next : phaseOf q (Attr n) ≡ Named n
-    next = named-next q n r (s .well)
-
-    go : (z : Bool) → eqb n a ≡ z → Held a q (held a (Attr n ∷ r)) (Attr n ∷ r)
-    go true f =
-        let x : (phases (Named n) (take (values r) r) ≡ Valued a) × (later a (drop (values r) r) ≡ true)
-        = subst (λ z. (phases (Named n) (take (values r) r) ≡ Valued z) × (later z (drop (values r) r) ≡ true)) (eqb-true n a f) (after-name n r (rw next at (s .well))) in
-        rw f (record { calm = s .calm; ends = inr (ap (λ z. phases z (take (values r) r)) next ∙ x .0); rest = x .1 })
-    go false f = rw f (record { calm = s .calm; ends = inl refl; rest = lt-ltb a n (omega (arith, eqb-false n a f, ltb-false n a (not-true (ltb n a) (s .meets)))) })
+use Rattle.paper.specs.Tokens.{balanced, held, isStart, slot, values}
+use Rattle.basic_laws.specs.Bools.{clash}
 
 -- ---- the whole document
 
@@ -349,31 +165,3 @@ attr-keeps a p d {piece} e s put =
     let z : attrAt a p d ≡ suc (p + slot a (drop (suc p) d)) = omega arith in
     rw z
     (splice-element d piece (p + slot a (drop (suc p) d)) (attrCut a p d) e (rw z at (attr-even a p d b s)) (put-even a put) (rw z at (attr-rest a p d b s)) (rw z at (attr-phases a p d b s put)))
-
--- ---- what set and drop touch: the element itself
-
-slot-even : (a : ℕ) (r : List Tok) → balanced (take (slot a r) r) ≡ true
-slot-even a [] = refl
-slot-even a (Attr n ∷ r) = go (slot-even a r) (ltb n a) refl
-  where
-    go : balanced (take (slot a r) r) ≡ true → (z : Bool) → ltb n a ≡ z → balanced (take (slot a (Attr n ∷ r)) (Attr n ∷ r)) ≡ true
-    go ih true f = rw f ih
-    go ih false f = rw f
-slot-even a (Value v ∷ r) = slot-even a r
-slot-even a (Start n ∷ r) = refl
-slot-even a (End ∷ r) = refl
-slot-even a (Text n ∷ r) = refl
-slot-even a (Bad ∷ r) = refl
-
-parent-here : (d : List Tok) (p s : ℕ) → isStart (drop p d) ≡ true → balanced (take s (drop (suc p) d)) ≡ true → parent (take (suc p + s) d) p ≡ true
-parent-here [] zero s e b = clash e refl
-parent-here [] (suc p) s e b = clash e refl
-parent-here (t ∷ d) zero s e b = rw (suc-add, zero-add, e, b)
-parent-here (t ∷ d) (suc p) s e b = rw suc-add (parent-here d p s e b)
-
-pub attr-parent : (a p : ℕ) (d piece : List Tok) → isElement d ≡ true → isStart (drop p d) ≡ true
-    → parent (take (attrAt a p d) (splice (attrAt a p d) (attrCut a p d) piece d)) p ≡ true
-attr-parent a p d piece e s =
-    let l : attrAt a p d ≤ length d = omega (arith, attr-rest a p d (element-parts d e .2) s, length-drop (attrAt a p d + attrCut a p d) d) in
-    rw (take-at (take (attrAt a p d) d) (piece ++ drop (attrAt a p d + attrCut a p d) d) (attrAt a p d) (length-take-le (attrAt a p d) d l))
-    (parent-here d p (slot a (drop (suc p) d)) s (slot-even a (drop (suc p) d)))

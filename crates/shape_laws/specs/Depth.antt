@@ -10,10 +10,11 @@ use lib.ListN.{take, drop, take-append-drop}
 use Rattle.paper.specs.declared.Tok.{Tok}
 use Rattle.paper.specs.declared.Tok.the-variants.{Start, End, Text, Attr, Value, Bad}
 use Rattle.shape_laws.specs.Ends.{deep-ge}
-use Rattle.shape_laws.specs.Local.{at-depth, clash}
+use Rattle.shape_laws.specs.Local.{at-depth}
 use Rattle.shape_laws.specs.Splice.{parts}
 use Rattle.paper.specs.Edits.{splice}
 use Rattle.paper.specs.Tokens.{balanced, closesOf, deep, level, run, starts}
+use Rattle.basic_laws.specs.Bools.{clash}
 
 -- ---- the depth of a place
 

@@ -1,8 +1,8 @@
--- An edit of a valid document: judged at what it touches, it gets the answer of judging the whole edited document; and a done
--- edit leaves a valid document. Assumes nothing.
+-- An edit of a valid document: judged at what it touches, it gets the answer of judging the whole edited document.
+-- Assumes nothing.
 use mathlib.Core.Path.{_≡_, refl, sym, ap, ap₂, _∙_, subst}
 use mathlib.Core.Logic.{_↔_}
-use mathlib.Core.Bool.{Bool, true, false, cond, not, _&&_, _||_}
+use mathlib.Core.Bool.{Bool, true, false, cond, not, _&&_, _||_, and-eq-true-iff}
 use mathlib.Core.List.{List, [], _∷_}
 use Prim.Native.Nat.{ℕ, zero, suc, _≤_, _<_}
 use native.Mathlib.Omega.{arith}
@@ -17,42 +17,39 @@ use Rattle.paper.specs.Tokens.{toks, tokOf, isStart, itemSize, values, touched}
 use Rattle.paper.specs.Shape.{isElement, shallow, shapeOf}
 use Rattle.paper.specs.Rules.{Rules}
 use Rattle.paper.specs.Judgement.{Answer, none-found, orElse, before, rootFault, keyFault, faultAt, first, startPlace, elementFault, judge, whole}
-use Rattle.paper.specs.Edits.{Request, byOperation, isText, goodItem, attrWith, someValues, goodPiece, opens, opensOrEnds, atHead, attrNumber, attrCut, goodPlace, spliceAt, spliceCut, coming, splice, edited, touchedBy, refused, done, answered, fits, formFault, editing}
-use Rattle.shape_laws.specs.Local.{clash}
-use Rattle.shape_laws.specs.Keep.{content, element-parts}
+use Rattle.paper.specs.Edits.{Request, byOperation, isText, goodItem, attrWith, someValues, goodPiece, opens, opensOrEnds, atHead, attrNumber, attrCut, goodPlace, spliceAt, spliceCut, coming, splice, edited, touchedBy, fits, formFault}
+use Rattle.shape_laws.specs.Phases.{content}
+use Rattle.basic_laws.specs.Bools.{clash}
+use Rattle.shape_laws.specs.Keep.{element-parts, from-start}
 use Rattle.shape_laws.specs.Attrs.{Put, gone, given}
 use Rattle.shape_laws.specs.Bridge.{toks-splice}
 use Rattle.shape_laws.specs.Five.{Whole, element, one-text, Allowed, insert, remove, replace, replace-root, attribute, five-keep, five-local}
 
-and-parts : (a b : Bool) → a && b ≡ true → (a ≡ true) × (b ≡ true)
-and-parts true b e = (refl, e)
-and-parts false b e = clash e refl
-
 -- ---- the tests of the paper give an edit that is allowed
 
-text-whole : (p : List Tok) → isText p ≡ true → Whole p
-text-whole [] e = clash e refl
-text-whole (Text n ∷ []) e = one-text
-text-whole (Text n ∷ x ∷ p) e = clash e refl
-text-whole (Start n ∷ p) e = clash e refl
-text-whole (End ∷ p) e = clash e refl
-text-whole (Attr n ∷ p) e = clash e refl
-text-whole (Value n ∷ p) e = clash e refl
-text-whole (Bad ∷ p) e = clash e refl
+pub text-is : (p : List Tok) → isText p ≡ true → (n : ℕ) × (p ≡ Text n ∷ [])
+text-is [] e = clash e refl
+text-is (Text n ∷ []) e = (n, refl)
+text-is (Text n ∷ x ∷ p) e = clash e refl
+text-is (Start n ∷ p) e = clash e refl
+text-is (End ∷ p) e = clash e refl
+text-is (Attr n ∷ p) e = clash e refl
+text-is (Value n ∷ p) e = clash e refl
+text-is (Bad ∷ p) e = clash e refl
 
 item-whole : (p : List Tok) → goodItem p ≡ true → Whole p
 item-whole p h = go (isText p) refl h
   where
     go : (b : Bool) → isText p ≡ b → b || (isElement p && shallow p) ≡ true → Whole p
-    go true t h = text-whole p t
-    go false t h = element (and-parts (isElement p) (shallow p) h .0)
+    go true t h = let (n, f) = text-is p t in rw f one-text
+    go false t h = element (and-eq-true-iff (isElement p) (shallow p) .0 h .0)
 
 item-element : (p : List Tok) → goodItem p ≡ true → not (isText p) ≡ true → isElement p ≡ true
 item-element p h n = go (isText p) h n
   where
     go : (b : Bool) → b || (isElement p && shallow p) ≡ true → not b ≡ true → isElement p ≡ true
     go true h n = clash n refl
-    go false h n = and-parts (isElement p) (shallow p) h .0
+    go false h n = and-eq-true-iff (isElement p) (shallow p) .0 h .0
 
 opens-size : (r : List Tok) → atHead opens r ≡ true → 0 < itemSize r
 opens-size [] e = clash e refl
@@ -87,46 +84,44 @@ values-put a (Text n ∷ vs) e = let h = eqb-true 0 (suc (length vs)) e in absur
 values-put a (Attr n ∷ vs) e = let h = eqb-true 0 (suc (length vs)) e in absurd (omega arith)
 values-put a (Bad ∷ vs) e = let h = eqb-true 0 (suc (length vs)) e in absurd (omega arith)
 
+-- an attribute, and what follows it
+pub attr-is : (P : List Tok → Bool) (p : List Tok) → attrWith P p ≡ true → (a : ℕ) × (r : List Tok) × (p ≡ Attr a ∷ r) × (P r ≡ true)
+attr-is P [] e = clash e refl
+attr-is P (Attr a ∷ p) e = (a, p, refl, e)
+attr-is P (Start n ∷ p) e = clash e refl
+attr-is P (End ∷ p) e = clash e refl
+attr-is P (Text n ∷ p) e = clash e refl
+attr-is P (Value n ∷ p) e = clash e refl
+attr-is P (Bad ∷ p) e = clash e refl
+
 set-put : (p : List Tok) → attrWith someValues p ≡ true → Put (attrNumber p) p
-set-put [] e = clash e refl
-set-put (Attr a ∷ p) e = values-put a p e
-set-put (Start n ∷ p) e = clash e refl
-set-put (End ∷ p) e = clash e refl
-set-put (Text n ∷ p) e = clash e refl
-set-put (Value n ∷ p) e = clash e refl
-set-put (Bad ∷ p) e = clash e refl
+set-put p e = let (a, r, f, v) = attr-is someValues p e in rw f (values-put a r v)
 
 root-size : (d : List Tok) → isElement d ≡ true → itemSize d ≡ length d
-root-size [] e = clash (element-parts [] e .0) refl
-root-size (Start n ∷ d) e = element-parts (Start n ∷ d) e .1
-root-size (End ∷ d) e = clash (element-parts (End ∷ d) e .0) refl
-root-size (Text n ∷ d) e = clash (element-parts (Text n ∷ d) e .0) refl
-root-size (Attr n ∷ d) e = clash (element-parts (Attr n ∷ d) e .0) refl
-root-size (Value n ∷ d) e = clash (element-parts (Value n ∷ d) e .0) refl
-root-size (Bad ∷ d) e = clash (element-parts (Bad ∷ d) e .0) refl
+root-size d e = from-start (λ d. itemSize d ≡ length d) d e (λ n q e. element-parts (Start n ∷ q) e .1)
 
 module _ (d p : List Tok) (e : isElement d ≡ true) where
   pub allowed-by : (op place : ℕ) → between 1 5 op ≡ true → goodPiece op p ≡ true → goodPlace op place p d ≡ true
       → Allowed d (spliceAt op place p d) (spliceCut op place p d) (coming op p)
   unfolding goodPiece goodPlace
   allowed-by zero place o g h = clash o refl
-  allowed-by (suc zero) zero o g h = clash (and-parts (atHead opensOrEnds d) false h .1) refl
+  allowed-by (suc zero) zero o g h = clash (and-eq-true-iff (atHead opensOrEnds d) false .0 h .1) refl
   allowed-by (suc zero) (suc at) o g h =
-      insert-at d p at (and-parts (atHead opensOrEnds (drop (suc at) d)) (ltb 0 (suc at)) h .0) (item-whole p (and-parts (leb (length p) mostTokens) (goodItem p) g .1))
-  allowed-by (suc (suc zero)) zero o g h = clash (and-parts (atHead opens d) false h .1) refl
-  allowed-by (suc (suc zero)) (suc at) o g h = remove at (opens-size (drop (suc at) d) (and-parts (atHead opens (drop (suc at) d)) (ltb 0 (suc at)) h .0))
+      insert-at d p at (and-eq-true-iff (atHead opensOrEnds (drop (suc at) d)) (ltb 0 (suc at)) .0 h .0) (item-whole p (and-eq-true-iff (leb (length p) mostTokens) (goodItem p) .0 g .1))
+  allowed-by (suc (suc zero)) zero o g h = clash (and-eq-true-iff (atHead opens d) false .0 h .1) refl
+  allowed-by (suc (suc zero)) (suc at) o g h = remove at (opens-size (drop (suc at) d) (and-eq-true-iff (atHead opens (drop (suc at) d)) (ltb 0 (suc at)) .0 h .0))
   allowed-by (suc (suc (suc zero))) zero o g h =
-      let f = item-element p (and-parts (leb (length p) mostTokens) (goodItem p) g .1) (and-parts (atHead opens d) (not (isText p)) h .1) in
+      let f = item-element p (and-eq-true-iff (leb (length p) mostTokens) (goodItem p) .0 g .1) (and-eq-true-iff (atHead opens d) (not (isText p)) .0 h .1) in
       subst (λ n. Allowed d 0 n p) (sym (root-size d e)) (replace-root f)
   allowed-by (suc (suc (suc zero))) (suc at) o g h =
-      replace at (opens-size (drop (suc at) d) (and-parts (atHead opens (drop (suc at) d)) (ltb 0 (suc at) || not (isText p)) h .0))
-      (item-whole p (and-parts (leb (length p) mostTokens) (goodItem p) g .1))
+      replace at (opens-size (drop (suc at) d) (and-eq-true-iff (atHead opens (drop (suc at) d)) (ltb 0 (suc at) || not (isText p)) .0 h .0))
+      (item-whole p (and-eq-true-iff (leb (length p) mostTokens) (goodItem p) .0 g .1))
   allowed-by (suc (suc (suc (suc zero)))) place o g h =
-      attribute (attrNumber p) place h (set-put p (and-parts (leb (length p) mostTokens) (attrWith someValues p) g .1))
+      attribute (attrNumber p) place h (set-put p (and-eq-true-iff (leb (length p) mostTokens) (attrWith someValues p) .0 g .1))
   allowed-by (suc (suc (suc (suc (suc zero))))) place o g h =
-      attribute (attrNumber p) place (and-parts (isStart (drop place d)) (ltb 0 (attrCut (attrNumber p) place d)) h .0) gone
+      attribute (attrNumber p) place (and-eq-true-iff (isStart (drop place d)) (ltb 0 (attrCut (attrNumber p) place d)) .0 h .0) gone
   allowed-by (suc (suc (suc (suc (suc (suc op)))))) place o g h =
-      let f = leb-true (suc (suc (suc (suc (suc (suc op)))))) 5 (and-parts (leb 1 (suc (suc (suc (suc (suc (suc op))))))) (leb (suc (suc (suc (suc (suc (suc op)))))) 5) o .1) in
+      let f = leb-true (suc (suc (suc (suc (suc (suc op)))))) 5 (and-eq-true-iff (leb 1 (suc (suc (suc (suc (suc (suc op))))))) (leb (suc (suc (suc (suc (suc (suc op)))))) 5) .0 o .1) in
       absurd (omega arith)
 
 -- ---- in numbers and in tokens
@@ -214,17 +209,6 @@ form-iff room q doc = (
     go true false c d f g h i k = absurd (omega arith)
     go false b c d f g h i k = absurd (omega arith)
 
-answered-done : (n : ℕ) (a : Answer) (l new : List ℕ) → answered n a l ≡ done new → (n ≡ 0) × (a .0 ≡ 0) × (l ≡ new)
-answered-done (suc n) a l new e = let z : _≡_ {A = ℕ} 0 1 = cc in absurd (omega arith)
-answered-done zero a l new e = go (eqb (a .0) 0) refl e
-  where
-    go : (b : Bool) → eqb (a .0) 0 ≡ b → cond b (done l) (refused (a .0) (a .1)) ≡ done new → (_≡_ {A = ℕ} 0 0) × (a .0 ≡ 0) × (l ≡ new)
-    go true f k = (refl, eqb-true (a .0) 0 f, cc)
-    go false f k = let z : _≡_ {A = ℕ} 0 1 = cc in absurd (omega arith)
-
-done-answered : (n : ℕ) (a : Answer) (l : List ℕ) → n ≡ 0 → a .0 ≡ 0 → answered n a l ≡ done l
-done-answered n a l p q = rw (p, q)
-
 module _ (R : Rules) (room : ℕ) (q : Request) (doc : List ℕ) (e : isElement (toks doc) ≡ true) where
   module _ (a : Asked room q doc) where
     permitted : Allowed (toks doc) (at q doc) (cut q doc) (coming (q .operation) (p q doc))
@@ -247,32 +231,12 @@ module _ (R : Rules) (room : ℕ) (q : Request) (doc : List ℕ) (e : isElement 
         ap₂ (λ t x. first (elementFault R) startPlace t 0 x) (touched-toks q doc) (edited-toks q doc) ∙ sym l ∙ ap (first (elementFault R) startPlace whole 0) (sym (edited-toks q doc)) in
         ap (λ x. before (rootFault R (toks (edited q doc))) (before x (keyFault R (toks (edited q doc))))) m
 
-  -- Of a valid document: an edit is done exactly if its form, place and size are right and the edited document is valid; and
-  -- then that document is what it leaves.
-  pub done-iff : judge R whole (toks doc) ≡ none-found
-      → (new : List ℕ) → (editing R room q doc ≡ done new) ↔ ((formFault room q doc ≡ 0) × (judge R whole (toks (edited q doc)) .0 ≡ 0) × (edited q doc ≡ new))
-  unfolding editing
-  done-iff v new = (to, of)
-    where
-      to : answered (formFault room q doc) (judge R (touchedBy q doc) (toks (edited q doc))) (edited q doc) ≡ done new
-          → (formFault room q doc ≡ 0) × (judge R whole (toks (edited q doc)) .0 ≡ 0) × (edited q doc ≡ new)
-      to k =
-          let (f, n, s) = answered-done (formFault room q doc) (judge R (touchedBy q doc) (toks (edited q doc))) (edited q doc) new k in
-          (f, ap (λ (x : Answer). x .0) (sym (judged-whole (form-iff room q doc .0 f) v)) ∙ n, s)
-
-      of : (formFault room q doc ≡ 0) × (judge R whole (toks (edited q doc)) .0 ≡ 0) × (edited q doc ≡ new)
-          → answered (formFault room q doc) (judge R (touchedBy q doc) (toks (edited q doc))) (edited q doc) ≡ done new
-      of (f, n, s) =
-          done-answered (formFault room q doc) (judge R (touchedBy q doc) (toks (edited q doc))) (edited q doc) f
-          (ap (λ (x : Answer). x .0) (judged-whole (form-iff room q doc .0 f) v) ∙ n)
-          ∙ ap done s
-
   -- in form, it makes a document with shape
   pub asked-shape : Asked room q doc → shapeOf (edited q doc) (length (edited q doc)) ≡ true
   unfolding shapeOf
   asked-shape a =
       let new : List ℕ = edited q doc in
       let one : isElement (toks new) ≡ true = edited-element a in
-      let (size, depth) = and-parts (leb (length new) mostTokens) (shallow (toks new)) (and-parts (leb (length new) mostTokens && shallow (toks new)) (leb (length new) room) (a .size) .0) in
+      let (size, depth) = and-eq-true-iff (leb (length new) mostTokens) (shallow (toks new)) .0 (and-eq-true-iff (leb (length new) mostTokens && shallow (toks new)) (leb (length new) room) .0 (a .size) .0) in
       let two : 2 ≤ length new = let h = element-parts (toks new) one .1 in omega (arith, length-map new tokOf) in
       rw (le-leb 2 (length new) two, size, le-leb (length new) (length new) (omega arith), take-length new, one, depth)

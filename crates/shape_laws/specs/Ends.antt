@@ -57,9 +57,6 @@ pub level-end : (k : ℕ) {t : Tok} → t ≡ End → k - 1 ≡ levelOf k t
 level-end zero e = rw e
 level-end (suc k) e = rw (e, sub-one)
 
-pub level-zero-end : (k : ℕ) {t : Tok} → t ≡ End → k ≡ 0 → 0 ≡ levelOf k t
-level-zero-end k e h = rw (e, h)
-
 pub level-start : (k : ℕ) {n : ℕ} {t : Tok} → t ≡ Start n → k + 1 ≡ levelOf k t
 level-start k e = rw (e, add-one)
 

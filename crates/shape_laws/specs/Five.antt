@@ -1,7 +1,7 @@
 -- The five edits: each keeps the shape, how deep it makes the document is told at its place, and judging what it touches is judging the
 -- whole.
-use mathlib.Core.Path.{_≡_, refl, sym, ap, _∙_}
-use mathlib.Core.Bool.{Bool, true, false}
+use mathlib.Core.Path.{_≡_, refl, ap}
+use mathlib.Core.Bool.{true}
 use mathlib.Core.List.{List, [], _∷_, append-nil}
 use mathlib.Core.Logic.{_↔_}
 use Prim.Native.Nat.{ℕ, zero, suc, _+_, _≤_, _<_}
@@ -13,14 +13,16 @@ use lib.ListN.{length, take, drop, length-drop}
 use lib.Seq.{take-length, drop-length}
 use Rattle.paper.specs.declared.Tok.{Tok}
 use Rattle.paper.specs.declared.Tok.the-variants.{Text}
+use Rattle.basic_laws.specs.Bools.{same-test}
 use Rattle.shape_laws.specs.Attrs.{Put, attr-even, attr-keeps, attr-rest, put-even}
 use Rattle.shape_laws.specs.Depth.{openIn, run-place, open-deep, edit-deep}
-use Rattle.shape_laws.specs.Keep.{Cut, content, element-item, element-parts, item}
+use Rattle.shape_laws.specs.Keep.{Cut, element-item, element-parts}
 use Rattle.shape_laws.specs.Splice.{cut-item, cut-nothing, edit-keeps, edit-local}
 use Rattle.paper.specs.Edits.{attrAt, attrCut, splice}
 use Rattle.paper.specs.Judgement.{first}
 use Rattle.paper.specs.Shape.{isElement}
 use Rattle.paper.specs.Tokens.{balanced, deep, isStart, itemSize, touched}
+use Rattle.shape_laws.specs.Phases.{content, item}
 
 -- the piece of an insert or a replace: one element or one text
 pub data Whole : List Tok → Type 0 where
@@ -47,12 +49,8 @@ size-some [] h = h
 size-some (t ∷ r) h = omega arith
 
 leb-same : (a b lim : ℕ) → (a ≤ lim) ↔ (b ≤ lim) → leb a lim ≡ leb b lim
-leb-same a b lim i = go (leb a lim) (leb b lim) refl refl
-  where
-    go : (x y : Bool) → leb a lim ≡ x → leb b lim ≡ y → leb a lim ≡ leb b lim
-    go true y p q = p ∙ sym (le-leb b lim (i .0 (leb-true a lim p)))
-    go false true p q = le-leb a lim (i .1 (leb-true b lim q)) ∙ sym q
-    go false false p q = p ∙ sym q
+leb-same a b lim i =
+    same-test (leb a lim) (leb b lim) (λ p. le-leb b lim (i .0 (leb-true a lim p))) (λ q. le-leb a lim (i .1 (leb-true b lim q)))
 
 module _ (d : List Tok) (e : isElement d ≡ true) where
   pub five-keep : {at n : ℕ} {piece : List Tok} → Allowed d at n piece → isElement (splice at n piece d) ≡ true

@@ -1,6 +1,6 @@
 -- An edit keeps the shape: what is put in and what is taken out are each nothing, a text or an element, so that the edited document is one element again.
 use mathlib.Core.Path.{_≡_, refl, sym, ap, _∙_}
-use mathlib.Core.Bool.{Bool, true, false, _&&_}
+use mathlib.Core.Bool.{true, _&&_, and-eq-true-iff}
 use mathlib.Core.List.{List, [], _∷_, _++_}
 use mathlib.Core.Option.{Option, none, some}
 use mathlib.Core.Logic.{_⊎_, inl, inr}
@@ -13,100 +13,11 @@ use lib.ListN.{length, take, drop, length-append, length-drop, take-append-drop}
 use Rattle.paper.specs.declared.Tok.{Tok}
 use Rattle.paper.specs.declared.Tok.the-variants.{Start, End, Text, Attr, Value, Bad}
 use Rattle.paper.specs.Shape.{Phase, Head, Named, Valued, Body, Fail}
-use Rattle.shape_laws.specs.Local.{at-depth, clash}
-use Rattle.paper.specs.Shape.{contentOf, isBody, isElement, phaseOf, phases}
+use Rattle.shape_laws.specs.Local.{at-depth}
+use Rattle.paper.specs.Shape.{isBody, isElement, phaseOf, phases}
 use Rattle.paper.specs.Tokens.{balanced, close, endOf, isStart, itemSize, level, run}
-
-and-true : (a b : Bool) → a && b ≡ true → (a ≡ true) × (b ≡ true)
-and-true true b e = (refl, e)
-and-true false b e = clash e refl
-
--- ---- the phases
-
-pub phases-append : (p : Phase) (a b : List Tok) → phases p (a ++ b) ≡ phases (phases p a) b
-phases-append p [] b = refl
-phases-append p (t ∷ a) b = phases-append (phaseOf p t) a b
-
-pub fails : (d : List Tok) → phases Fail d ≡ Fail
-fails [] = refl
-fails (t ∷ d) = fails d
-
--- a token that may stand among an element's children, or end it
-abbrev pub content : Tok → Bool
-content (Start n) = true
-content End = true
-content (Text n) = true
-content (Attr n) = false
-content (Value n) = false
-content Bad = false
-
--- a phase in which such a token may come
-abbrev pub ready : Phase → Bool
-ready Head = true
-ready (Named a) = false
-ready (Valued a) = true
-ready Body = true
-ready Fail = false
-
-pub ready-content : (p : Phase) (t : Tok) → ready p ≡ true → content t ≡ true → phaseOf p t ≡ contentOf t
-ready-content Head (Start n) r c = refl
-ready-content Head End r c = refl
-ready-content Head (Text n) r c = refl
-ready-content Head (Attr n) r c = clash c refl
-ready-content Head (Value n) r c = clash c refl
-ready-content Head Bad r c = clash c refl
-ready-content (Named a) t r c = clash r refl
-ready-content (Valued a) (Start n) r c = refl
-ready-content (Valued a) End r c = refl
-ready-content (Valued a) (Text n) r c = refl
-ready-content (Valued a) (Attr n) r c = clash c refl
-ready-content (Valued a) (Value n) r c = clash c refl
-ready-content (Valued a) Bad r c = clash c refl
-ready-content Body t r c = refl
-ready-content Fail t r c = clash r refl
-
--- the other way round: a document in which content stands at a place was ready for it there
-pub was-ready : (p : Phase) (t : Tok) (d : List Tok) → content t ≡ true → isBody (phases p (t ∷ d)) ≡ true → ready p ≡ true
-was-ready Head t d c e = refl
-was-ready (Named a) (Start n) d c e = clash e (ap isBody (fails d))
-was-ready (Named a) End d c e = clash e (ap isBody (fails d))
-was-ready (Named a) (Text n) d c e = clash e (ap isBody (fails d))
-was-ready (Named a) (Attr n) d c e = clash c refl
-was-ready (Named a) (Value n) d c e = clash c refl
-was-ready (Named a) Bad d c e = clash c refl
-was-ready (Valued a) t d c e = refl
-was-ready Body t d c e = refl
-was-ready Fail t d c e = clash e (ap isBody (fails d))
-
-body-is : (p : Phase) → isBody p ≡ true → p ≡ Body
-body-is Head e = clash e refl
-body-is (Named a) e = clash e refl
-body-is (Valued a) e = clash e refl
-body-is Body e = refl
-body-is Fail e = clash e refl
-
--- nothing, or what begins with content and leaves the phase among the children
-abbrev pub item : List Tok → Bool
-item [] = true
-item (c ∷ a) = content c && isBody (phases Body (c ∷ a))
-
-skips : (p : Phase) (a : List Tok) (t : Tok) (x : List Tok) → ready p ≡ true → item a ≡ true → content t ≡ true → phases p (a ++ (t ∷ x)) ≡ phases Body (t ∷ x)
-skips p [] t x r i c = ap (λ q. phases q x) (ready-content p t r c)
-skips p (s ∷ a) t x r i c =
-    phases-append (phaseOf p s) a (t ∷ x)
-    ∙ ap (λ q. phases (phases q a) (t ∷ x)) (ready-content p s r (and-true (content s) (isBody (phases Body (s ∷ a))) i .0))
-    ∙ ap (λ q. phases q (t ∷ x)) (body-is (phases (contentOf s) a) (and-true (content s) (isBody (phases Body (s ∷ a))) i .1))
-
-was-ready-item : (p : Phase) (a : List Tok) (t : Tok) (x : List Tok) → item a ≡ true → content t ≡ true → isBody (phases p (a ++ (t ∷ x))) ≡ true → ready p ≡ true
-was-ready-item p [] t x i c e = was-ready p t x c e
-was-ready-item p (s ∷ a) t x i c e = was-ready p s (a ++ (t ∷ x)) (and-true (content s) (isBody (phases Body (s ∷ a))) i .0) e
-
-pub keep-phases : (pre cut piece : List Tok) (t : Tok) (x : List Tok) → item cut ≡ true → item piece ≡ true → content t ≡ true
-    → isBody (phases Body (pre ++ (cut ++ (t ∷ x)))) ≡ true → isBody (phases Body (pre ++ (piece ++ (t ∷ x)))) ≡ true
-keep-phases pre cut piece t x ic ip c e =
-    let f : isBody (phases (phases Body pre) (cut ++ (t ∷ x))) ≡ true = ap isBody (sym (phases-append Body pre (cut ++ (t ∷ x)))) ∙ e in
-    let r : ready (phases Body pre) ≡ true = was-ready-item (phases Body pre) cut t x ic c f in
-    ap isBody (phases-append Body pre (piece ++ (t ∷ x)) ∙ skips (phases Body pre) piece t x r ip c ∙ sym (skips (phases Body pre) cut t x r ic c)) ∙ f
+use Rattle.basic_laws.specs.Bools.{clash}
+use Rattle.shape_laws.specs.Phases.{phases-append, fails, content, ready, ready-content, was-ready, was-content, item, keep-phases}
 
 -- ---- the ends
 
@@ -165,9 +76,19 @@ keep-end q cut piece post bc bp e h = go (run zero q) refl
 pub element-parts : (d : List Tok) → isElement d ≡ true → (isStart d ≡ true) × (suc (suc (close zero (drop 1 d))) ≡ length d) × (isBody (phases Body d) ≡ true)
 unfolding isElement endOf
 element-parts d e =
-    let f = and-true (isStart d && eqb (suc (endOf d zero)) (length d)) (isBody (phases Body d)) e in
-    let g = and-true (isStart d) (eqb (suc (endOf d zero)) (length d)) (f .0) in
+    let f = and-eq-true-iff (isStart d && eqb (suc (endOf d zero)) (length d)) (isBody (phases Body d)) .0 e in
+    let g = and-eq-true-iff (isStart d) (eqb (suc (endOf d zero)) (length d)) .0 (f .0) in
     (g .0, omega (arith, eqb-true (suc (endOf d zero)) (length d) (g .1)), f .1)
+
+-- an element is its start and what follows
+pub from-start : (P : List Tok → Type 0) (d : List Tok) → isElement d ≡ true → ((n : ℕ) (q : List Tok) → isElement (Start n ∷ q) ≡ true → P (Start n ∷ q)) → P d
+from-start P [] e f = clash (element-parts [] e .0) refl
+from-start P (Start n ∷ q) e f = f n q e
+from-start P (End ∷ q) e f = clash (element-parts (End ∷ q) e .0) refl
+from-start P (Text n ∷ q) e f = clash (element-parts (Text n ∷ q) e .0) refl
+from-start P (Attr n ∷ q) e f = clash (element-parts (Attr n ∷ q) e .0) refl
+from-start P (Value n ∷ q) e f = clash (element-parts (Value n ∷ q) e .0) refl
+from-start P (Bad ∷ q) e f = clash (element-parts (Bad ∷ q) e .0) refl
 
 pub element-made : (d : List Tok) → isStart d ≡ true → suc (suc (close zero (drop 1 d))) ≡ length d → isBody (phases Body d) ≡ true → isElement d ≡ true
 unfolding isElement endOf
@@ -185,15 +106,9 @@ keep-element n q cut piece t x bc ic bp ip c e =
 -- ---- what is put in: an element or a text
 
 pub element-item : (d : List Tok) → isElement d ≡ true → (balanced d ≡ true) × (item d ≡ true)
-element-item [] e = clash (element-parts [] e .0) refl
-element-item (Start n ∷ q) e =
+element-item d e = from-start (λ d. (balanced d ≡ true) × (item d ≡ true)) d e (λ n q e.
     let f = element-parts (Start n ∷ q) e in
-    (ap level (closed zero q (ap pred (f .1))), f .2)
-element-item (End ∷ q) e = clash (element-parts (End ∷ q) e .0) refl
-element-item (Text n ∷ q) e = clash (element-parts (Text n ∷ q) e .0) refl
-element-item (Attr n ∷ q) e = clash (element-parts (Attr n ∷ q) e .0) refl
-element-item (Value n ∷ q) e = clash (element-parts (Value n ∷ q) e .0) refl
-element-item (Bad ∷ q) e = clash (element-parts (Bad ∷ q) e .0) refl
+    (ap level (closed zero q (ap pred (f .1))), f .2))
 
 -- ---- what is taken out
 
@@ -241,14 +156,6 @@ close-phase k p (Text n ∷ w) h = close-phase k (phaseOf p (Text n)) w (le-of-s
 close-phase k p (Attr n ∷ w) h = close-phase k (phaseOf p (Attr n)) w (le-of-suc-le-suc h)
 close-phase k p (Value n ∷ w) h = close-phase k (phaseOf p (Value n)) w (le-of-suc-le-suc h)
 close-phase k p (Bad ∷ w) h = close-phase k (phaseOf p Bad) w (le-of-suc-le-suc h)
-
-was-content : (t : Tok) (x : List Tok) → isBody (phases Body (t ∷ x)) ≡ true → content t ≡ true
-was-content (Start n) x e = refl
-was-content End x e = refl
-was-content (Text n) x e = refl
-was-content (Attr n) x e = clash e (ap isBody (fails x))
-was-content (Value n) x e = clash e (ap isBody (fails x))
-was-content Bad x e = clash e (ap isBody (fails x))
 
 -- what may be cut out of a document: it is balanced, an item, and content follows
 pub record Cut (n : ℕ) (r : List Tok) : Type 0 where

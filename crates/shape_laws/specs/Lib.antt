@@ -1,18 +1,18 @@
--- Laws of token lists. Phases, Ends, ShapeTurns, Kids and Move are turns of loops; Tree says that shape is a tree; Local to Five
--- say what an edit leaves as it was; EditJudged says what follows for judging an edit.
-pub mod Phases
+-- Laws of token lists. Ends, ShapeTurns and Move are turns of loops; Phases to Five say what an edit leaves as it was; Tree says that
+-- shape is a tree; EditJudged says what follows for judging an edit.
 pub mod Ends
 pub mod ShapeTurns
+pub mod Move
+pub mod Bridge
 pub mod Local
+pub mod Phases
 pub mod Keep
 pub mod Splice
+pub mod Slots
 pub mod Attrs
 pub mod Depth
 pub mod Touch
 pub mod Five
 pub mod Tree
 pub mod TreeDepth
-pub mod Move
-pub mod Bridge
-pub mod Kids
 pub mod EditJudged

@@ -1,6 +1,6 @@
 -- An edit is judged at the touched elements alone: the answer is that of judging every element of the edited document.
 use mathlib.Core.Path.{_≡_, refl, sym, ap, ap₂, _∙_}
-use mathlib.Core.Bool.{true≢false, Bool, true, false, cond, _&&_, _||_}
+use mathlib.Core.Bool.{Bool, true, false, cond, _&&_}
 use mathlib.Core.List.{List, [], _∷_, _++_}
 use mathlib.Core.Option.{Option, none, some}
 use Prim.Native.Nat.{ℕ, zero, suc, _+_, _-_, _≤_, _<_}
@@ -14,15 +14,8 @@ use lib.Seq.{drop-append-add, take-append-seam}
 use Rattle.paper.specs.declared.Tok.{Tok}
 use Rattle.paper.specs.declared.Tok.the-variants.{Start, End, Text, Attr, Value, Bad}
 use Rattle.paper.specs.Judgement.{faultAt, first, orElse}
+use Rattle.basic_laws.specs.Bools.{clash, neither}
 use Rattle.paper.specs.Tokens.{balanced, heads, kids, level, parent, run, touched}
-
--- a test that is both
-pub clash {ℓ} : {A : Type ℓ} {b : Bool} → b ≡ true → b ≡ false → A
-clash p q = absurd (true≢false (sym p ∙ q))
-
-or-false : (a b : Bool) → a || b ≡ false → (a ≡ false) × (b ≡ false)
-or-false true b e = clash refl e
-or-false false b e = (refl, e)
 
 -- under an open child, what only opens and closes is passed over
 skip : (k m : ℕ) (a x : List Tok) → run k a ≡ some m → kids (suc k) (a ++ x) ≡ kids (suc m) x
@@ -36,7 +29,7 @@ skip k m (Value n ∷ a) x e = skip k m a x e
 skip k m (Bad ∷ a) x e = skip k m a x e
 
 -- what is balanced is so at every depth
-pub deeper : (k m : ℕ) (a : List Tok) → run k a ≡ some m → run (suc k) a ≡ some (suc m)
+deeper : (k m : ℕ) (a : List Tok) → run k a ≡ some m → run (suc k) a ≡ some (suc m)
 deeper k m [] e = cc
 deeper k m (Start n ∷ a) e = deeper (suc k) m a e
 deeper zero m (End ∷ a) e = cc
@@ -123,7 +116,7 @@ module _ (cut piece post : List Tok) (hc : balanced cut ≡ true) (hp : balanced
           inside = leb (length pre) i && ltb i (length pre + length piece)
 
           parts : (parent (take (length pre) after) i ≡ false) × (inside ≡ false)
-          parts = or-false (parent (take (length pre) after) i) inside e
+          parts = neither (parent (take (length pre) after) i) inside e
 
           early : parent pre i ≡ false
           early = rw take-append-seam at (parts .0)

@@ -9,12 +9,13 @@ use lib.ListN.{length, take, drop, take-append-drop}
 use lib.Seq.{drop-drop, length-take-le}
 use Rattle.paper.specs.declared.Tok.{Tok}
 use Rattle.paper.specs.declared.Tok.the-variants.{Start, End, Text, Attr, Value, Bad}
-use Rattle.shape_laws.specs.Keep.{Cut, content, cut-element, cut-text, element-parts, item, keep-element}
-use Rattle.shape_laws.specs.Local.{clash, local}
+use Rattle.shape_laws.specs.Keep.{Cut, from-start, cut-element, cut-text, keep-element}
+use Rattle.shape_laws.specs.Local.{local}
 use Rattle.paper.specs.Edits.{splice}
 use Rattle.paper.specs.Judgement.{faultAt, first, orElse}
 use Rattle.paper.specs.Shape.{isElement}
 use Rattle.paper.specs.Tokens.{balanced, itemSize, touched}
+use Rattle.shape_laws.specs.Phases.{content, item}
 
 -- the document, cut at the edited part
 pub parts : (at n : ℕ) (d : List Tok) → take at d ++ (take n (drop at d) ++ drop (at + n) d) ≡ d
@@ -41,17 +42,6 @@ module _ (fault : ℕ → List Tok → List Tok → ℕ) where
       (local (take n (drop at d)) piece (drop (at + n) d) hc hp fault (take at d) (λ i. rw (parts at n d) (faultless given 0 d v i)) given)
 
 -- ---- insert, remove and replace keep the shape
-
--- an element is its start and what follows
-module _ (P : List Tok → Type 0) where
-  pub from-start : (d : List Tok) → isElement d ≡ true → ((n : ℕ) (q : List Tok) → isElement (Start n ∷ q) ≡ true → P (Start n ∷ q)) → P d
-  from-start [] e f = clash (element-parts [] e .0) refl
-  from-start (Start n ∷ q) e f = f n q e
-  from-start (End ∷ q) e f = clash (element-parts (End ∷ q) e .0) refl
-  from-start (Text n ∷ q) e f = clash (element-parts (Text n ∷ q) e .0) refl
-  from-start (Attr n ∷ q) e f = clash (element-parts (Attr n ∷ q) e .0) refl
-  from-start (Value n ∷ q) e f = clash (element-parts (Value n ∷ q) e .0) refl
-  from-start (Bad ∷ q) e f = clash (element-parts (Bad ∷ q) e .0) refl
 
 -- nothing is cut before content
 pub cut-nothing : (t : Tok) (x : List Tok) → content t ≡ true → Cut 0 (t ∷ x)

@@ -1,6 +1,6 @@
 -- What is touched, as the code goes through it: the one parent, then the piece.
 use mathlib.Core.Path.{_≡_, refl, sym, ap, ap₂, _∙_}
-use mathlib.Core.Bool.{Bool, true, false, cond, _&&_, _||_, true≢false}
+use mathlib.Core.Bool.{Bool, true, false, cond, _&&_, _||_, true≢false, and-eq-true-iff}
 use mathlib.Core.List.{List, [], _∷_, _++_}
 use Prim.Native.Nat.{ℕ, zero, suc, _+_, _-_, _≤_, _<_, suc-le-suc}
 use native.Mathlib.Omega.{arith}
@@ -9,12 +9,13 @@ use lib.Dec.{leb, ltb, eqb}
 use native.Mathlib.Numerals.{add-one, sub-one}
 use lib.ListN.{length, take, drop, getD, length-take}
 use Rattle.shape_laws.specs.Ends.{rest-next, rest-none}
-use Rattle.shape_laws.specs.Local.{at-depth, clash}
+use Rattle.shape_laws.specs.Local.{at-depth}
 use Rattle.shape_laws.specs.ShapeTurns.{length-toks}
 use Rattle.paper.specs.Judgement.{faultAt, first, orElse, startPlace}
 use Rattle.paper.specs.Tokens.{balanced, level, parent, run, starts, tokOf, toks, touched}
 use Rattle.paper.specs.declared.Tok.{Tok}
 use Rattle.paper.specs.declared.Tok.the-variants.{Start, End, Text, Attr, Value, Bad}
+use Rattle.basic_laws.specs.Bools.{clash}
 
 -- an open element around a balanced rest is no balanced part
 unbalanced : (k : ℕ) (a : List Tok) (n : ℕ) (b : List Tok) → balanced b ≡ true → level (run k (a ++ (Start n ∷ b))) ≡ true → ⊥
@@ -48,16 +49,12 @@ not-both a j p b = go zero a j p b
     go k (Value n ∷ a) (suc j) p b = go k a j p b
     go k (Bad ∷ a) (suc j) p b = go k a j p b
 
-and-right : (a b : Bool) → a && b ≡ true → b ≡ true
-and-right true b e = e
-and-right false b e = clash e refl
-
-pub parent-one : (a : List Tok) (i j : ℕ) → parent a i ≡ true → parent a j ≡ true → i ≡ j
+parent-one : (a : List Tok) (i j : ℕ) → parent a i ≡ true → parent a j ≡ true → i ≡ j
 parent-one [] zero j p q = clash p refl
 parent-one [] (suc i) j p q = clash p refl
 parent-one (t ∷ a) zero zero p q = refl
-parent-one (t ∷ a) zero (suc j) p q = absurd (not-both a j q (and-right (starts t) (balanced a) p))
-parent-one (t ∷ a) (suc i) zero p q = absurd (not-both a i p (and-right (starts t) (balanced a) q))
+parent-one (t ∷ a) zero (suc j) p q = absurd (not-both a j q (and-eq-true-iff (starts t) (balanced a) .0 p .1))
+parent-one (t ∷ a) (suc i) zero p q = absurd (not-both a i p (and-eq-true-iff (starts t) (balanced a) .0 q .1))
 parent-one (t ∷ a) (suc i) (suc j) p q = ap suc (parent-one a i j p q)
 
 -- the places of the piece
@@ -141,7 +138,7 @@ parent-found (t ∷ a) zero e = rw e
 parent-found (t ∷ a) (suc i) e = go (parent-found a i e) (starts t && balanced a) refl
   where
     go : i ≡ parentOf a → (b : Bool) → starts t && balanced a ≡ b → suc i ≡ cond (starts t && balanced a) 0 (suc (parentOf a))
-    go ih true f = absurd (not-both a i e (and-right (starts t) (balanced a) f))
+    go ih true f = absurd (not-both a i e (and-eq-true-iff (starts t) (balanced a) .0 f .1))
     go ih false f = rw f (ap suc ih)
 
 -- what is balanced at some level leaves no element open

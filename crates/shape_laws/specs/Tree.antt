@@ -1,19 +1,20 @@
 -- What a document of good shape is: the tokens of one element, a tree.
 use mathlib.Core.Path.{_≡_, refl, sym, ap, ap₂, _∙_}
-use mathlib.Core.Bool.{Bool, true, false, cond, _&&_}
+use mathlib.Core.Bool.{Bool, true, false, cond, _&&_, and-eq-true-iff}
 use mathlib.Core.List.{List, [], _∷_}
 use mathlib.Core.Logic.{_↔_}
 use Prim.Native.Nat.{ℕ, zero, suc, pred}
 use native.Mathlib.Omega.{arith}
 use lib.Dec.{ltb}
-use lib.ListN.{length, drop}
+use lib.ListN.{length}
 use Rattle.paper.specs.declared.Tok.{Tok}
 use Rattle.paper.specs.declared.Tok.the-variants.{Start, End, Text, Attr, Value, Bad}
 use Rattle.paper.specs.Shape.{Phase, Head, Named, Valued, Body, Fail}
-use Rattle.shape_laws.specs.Keep.{content, element-made, element-parts, fails, ready, ready-content}
-use Rattle.shape_laws.specs.Local.{clash}
+use Rattle.basic_laws.specs.Bools.{both}
+use Rattle.shape_laws.specs.Phases.{failing, content, ready, ready-content}
+use Rattle.shape_laws.specs.Keep.{element-made, element-parts, from-start}
 use Rattle.paper.specs.Shape.{isBody, isElement, phaseOf, phases}
-use Rattle.paper.specs.Tokens.{close, isStart}
+use Rattle.paper.specs.Tokens.{close}
 use Rattle.paper.specs.Trees.{Given, Forest, nil, txt, elem, flatV, flatA, flat, above, rises, good, IsTree}
 
 -- ---- the tokens of a tree have the shape
@@ -39,15 +40,11 @@ phases-values : (a : ℕ) (vs : List ℕ) (r : List Tok) → phases (Valued a) (
 phases-values a [] r = refl
 phases-values a (v ∷ vs) r = phases-values a vs r
 
-both : (a b : Bool) → a && b ≡ true → (a ≡ true) × (b ≡ true)
-both true b e = (refl, e)
-both false b e = clash e refl
-
 -- the attributes lead to a phase that is ready
 after-above : (b : ℕ) (gs : List Given) (r : List Tok) → above b gs ≡ true → (q : Phase) × (ready q ≡ true) × (phases (Valued b) (flatA gs r) ≡ phases q r)
 after-above b [] r e = (Valued b, refl, refl)
 after-above b (g ∷ gs) r e =
-    let h = both (ltb b (g .name)) (above (g .name) gs) e in
+    let h = and-eq-true-iff (ltb b (g .name)) (above (g .name) gs) .0 e in
     let n = after-above (g .name) gs r (h .1) in (
       n .0,
       n .1,
@@ -66,16 +63,16 @@ phases-flat : (q : Phase) (f : Forest) (t : Tok) (r : List Tok) → ready q ≡ 
 phases-flat q nil t r p g c = ap (λ z. phases z r) (ready-content q t p c)
 phases-flat q (txt n f) t r p g c = ap (λ z. phases z (flat f (t ∷ r))) (ready-content q (Text n) p refl) ∙ phases-flat Body f t r refl g c
 phases-flat q (elem n gs k f) t r p g c =
-    let h = both (rises gs) (good k && good f) g in
-    let i = both (good k) (good f) (h .1) in
+    let h = and-eq-true-iff (rises gs) (good k && good f) .0 g in
+    let i = and-eq-true-iff (good k) (good f) .0 (h .1) in
     let a = after-rises gs (flat k (End ∷ flat f (t ∷ r))) (h .0) in
     ap (λ z. phases z (flatA gs (flat k (End ∷ flat f (t ∷ r))))) (ready-content q (Start n) p refl)
     ∙ a .2 ∙ phases-flat (a .0) k End (flat f (t ∷ r)) (a .1) (i .0) refl ∙ phases-flat Body f t r refl (i .1) c
 
 pub tree-shape : (n : ℕ) (gs : List Given) (k : Forest) → good (elem n gs k nil) ≡ true → isElement (flat (elem n gs k nil) []) ≡ true
 tree-shape n gs k g =
-    let h = both (rises gs) (good k && true) g in
-    let i = both (good k) true (h .1) in
+    let h = and-eq-true-iff (rises gs) (good k && true) .0 g in
+    let i = and-eq-true-iff (good k) true .0 (h .1) in
     let a = after-rises gs (flat k (End ∷ [])) (h .0) in
     element-made (flat (elem n gs k nil) []) refl
     (ap suc (full-attrs zero gs (flat k (End ∷ [])) (full-flat zero k (End ∷ []) refl)))
@@ -105,9 +102,6 @@ Reads (Named a) k d = (g : Given) × (gs : List Given) × (o : Opens k) × (g .n
 Reads (Valued a) k d = (vs : List ℕ) × (gs : List Given) × (o : Opens k) × (above a gs ≡ true) × (goodO k o ≡ true) × (d ≡ flatV vs (flatA gs (flatO k o)))
 Reads Fail k d = ⊥
 
-and-make : (a b : Bool) → a ≡ true → b ≡ true → a && b ≡ true
-and-make a b p q = rw (p, q)
-
 by-text : (n k : ℕ) (d : List Tok) → Reads Body k d → Reads Body k (Text n ∷ d)
 by-text n zero d r = (txt n (r .0), r .1, ap (λ z. Text n ∷ z) (r .2))
 by-text n (suc k) d r = ((txt n (r .0 .0), r .0 .1), r .1, ap (λ z. Text n ∷ z) (r .2))
@@ -117,13 +111,13 @@ by-end k d r = ((nil, r .0), r .1, ap (λ z. End ∷ z) (r .2))
 
 by-start : (n k : ℕ) (d : List Tok) → Reads Head (suc k) d → Reads Body k (Start n ∷ d)
 by-start n zero d r =
-    (elem n (r .0) (r .1 .0) (r .1 .1), and-make (rises (r .0)) (good (r .1 .0) && good (r .1 .1)) (r .2) (r .3), ap (λ z. Start n ∷ z) (r .4))
+    (elem n (r .0) (r .1 .0) (r .1 .1), both (r .2) (r .3), ap (λ z. Start n ∷ z) (r .4))
 by-start n (suc k) d r =
-    let f = both (good (r .1 .0)) (good (r .1 .1 .0) && goodO k (r .1 .1 .1)) (r .3) in
-    let g = both (good (r .1 .1 .0)) (goodO k (r .1 .1 .1)) (f .1) in (
+    let f = and-eq-true-iff (good (r .1 .0)) (good (r .1 .1 .0) && goodO k (r .1 .1 .1)) .0 (r .3) in
+    let g = and-eq-true-iff (good (r .1 .1 .0)) (goodO k (r .1 .1 .1)) .0 (f .1) in (
       (elem n (r .0) (r .1 .0) (r .1 .1 .0), r .1 .1 .1),
-      and-make (rises (r .0) && (good (r .1 .0) && good (r .1 .1 .0))) (goodO k (r .1 .1 .1))
-          (and-make (rises (r .0)) (good (r .1 .0) && good (r .1 .1 .0)) (r .2) (and-make (good (r .1 .0)) (good (r .1 .1 .0)) (f .0) (g .0))) (g .1),
+      both
+          (both (r .2) (both (f .0) (g .0))) (g .1),
       ap (λ z. Start n ∷ z) (r .4),
     )
 
@@ -137,16 +131,13 @@ by-first : (n k : ℕ) (d : List Tok) → Reads (Named n) k d → Reads Head k (
 by-first n k d r = (r .0 ∷ r .1, r .2, rw (r .3) (r .4), r .5, ap₂ (λ a z. Attr a ∷ z) (sym (r .3)) (r .6))
 
 by-later : (a n k : ℕ) (d : List Tok) → ltb a n ≡ true → Reads (Named n) k d → Reads (Valued a) k (Attr n ∷ d)
-by-later a n k d l r = ([], r .0 ∷ r .1, r .2, rw (r .3) (and-make (ltb a n) (above n (r .1)) l (r .4)), r .5, ap₂ (λ a z. Attr a ∷ z) (sym (r .3)) (r .6))
+by-later a n k d l r = ([], r .0 ∷ r .1, r .2, rw (r .3) (both l (r .4)), r .5, ap₂ (λ a z. Attr a ∷ z) (sym (r .3)) (r .6))
 
 by-value : (a v k : ℕ) (d : List Tok) → Reads (Valued a) k d → Reads (Valued a) k (Value v ∷ d)
 by-value a v k d r = (v ∷ r .0, r .1, r .2, r .3, r .4, ap (λ z. Value v ∷ z) (r .5))
 
 by-only : (a v k : ℕ) (d : List Tok) → Reads (Valued a) k d → Reads (Named a) k (Value v ∷ d)
 by-only a v k d r = (record { name = a; value = v; more = r .0 }, r .1, r .2, refl, r .3, r .4, ap (λ z. Value v ∷ z) (r .5))
-
-failing : {A : Type 0} (r : List Tok) → isBody (phases Fail r) ≡ true → A
-failing r e = clash e (ap isBody (fails r))
 
 at-end : (d : List Tok) → suc zero ≡ suc (length d) → Reads Body zero (End ∷ d)
 at-end [] e = (nil, refl, refl)
@@ -192,24 +183,16 @@ read (Valued a) k (Bad ∷ d) e f = failing d e
 read Fail k (t ∷ d) e f = failing d e
 
 pub shape-tree : (d : List Tok) → isElement d ≡ true → IsTree d
-shape-tree d e = go d (element-parts d e)
-  where
-    go : (d : List Tok) → (isStart d ≡ true) × (suc (suc (close zero (drop 1 d))) ≡ length d) × (isBody (phases Body d) ≡ true) → IsTree d
-    go [] p = clash (p .0) refl
-    go (Start n ∷ d) p =
-        let r = read Head zero d (p .2) (ap pred (p .1)) in
-        record {
-          name = n;
-          attributes = r .0;
-          content = r .1;
-          rising = and-make (rises (r .0)) (good (r .1) && true) (r .2) (and-make (good (r .1)) true (r .3) refl);
-          tokens = ap (λ z. Start n ∷ z) (r .4);
-        }
-    go (End ∷ d) p = clash (p .0) refl
-    go (Text n ∷ d) p = clash (p .0) refl
-    go (Attr n ∷ d) p = clash (p .0) refl
-    go (Value n ∷ d) p = clash (p .0) refl
-    go (Bad ∷ d) p = clash (p .0) refl
+shape-tree d e = from-start IsTree d e (λ n d e.
+    let p = element-parts (Start n ∷ d) e in
+    let r = read Head zero d (p .2) (ap pred (p .1)) in
+    record {
+      name = n;
+      attributes = r .0;
+      content = r .1;
+      rising = both (r .2) (both (r .3) refl);
+      tokens = ap (λ z. Start n ∷ z) (r .4);
+    })
 
 -- a document has the shape exactly if it is a tree's tokens
 pub shape-is-tree : (d : List Tok) → (isElement d ≡ true) ↔ IsTree d

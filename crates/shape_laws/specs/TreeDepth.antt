@@ -1,16 +1,16 @@
 -- The levels of a tree's tokens are the tree's levels; so a document has shape exactly if it is the tokens of one element, within the
 -- limits. Assumes nothing.
-use mathlib.Core.Path.{_≡_, refl, _∙_}
+use mathlib.Core.Path.{_≡_, refl}
 use mathlib.Core.Logic.{_↔_}
-use mathlib.Core.Bool.{Bool, true, false, _&&_}
+use mathlib.Core.Bool.{true, _&&_, and-eq-true-iff}
 use mathlib.Core.List.{List, [], _∷_}
-use Prim.Native.Nat.{ℕ, zero, suc, _+_, _≤_, max}
+use Prim.Native.Nat.{ℕ, zero, suc, _+_, max}
 use native.Mathlib.Omega.{arith}
 use borrow.Author.Tests.{leb-true, le-leb}
 use lib.Dec.{leb}
 use lib.ListN.{length, take}
 use Rattle.paper.specs.declared.Tok.{Tok}
-use Rattle.paper.specs.declared.Tok.the-variants.{Start, End}
+use Rattle.paper.specs.declared.Tok.the-variants.{End}
 use Rattle.paper.specs.Basics.{mostTokens, mostDeep}
 use Rattle.paper.specs.Tokens.{toks, deep}
 use Rattle.paper.specs.Shape.{isElement, shallow, shapeOf}
@@ -40,10 +40,6 @@ tree-deep d t = rw (t .tokens) (let e = deep-flat zero (treeOf t) [] in omega ar
 
 -- ---- shape
 
-and-iff : (a b : Bool) → (a && b ≡ true) ↔ ((a ≡ true) × (b ≡ true))
-and-iff true b = (λ e. (refl, e), λ p. p .1)
-and-iff false b = (λ e. (e, let z : _≡_ {A = ℕ} 0 1 = cc in absurd (omega arith)), λ p. p .0)
-
 pub shape-exactly : (buffer : List ℕ) (used : ℕ) → (shapeOf buffer used ≡ true) ↔ InShape buffer used
 unfolding shapeOf
 shape-exactly buffer used = (to, of)
@@ -51,10 +47,10 @@ shape-exactly buffer used = (to, of)
     to : leb 2 used && leb used mostTokens && leb used (length buffer) && isElement (toks (take used buffer)) && shallow (toks (take used buffer)) ≡ true → InShape buffer used
     to e =
         let d : List Tok = toks (take used buffer) in
-        let (e, s) = and-iff (leb 2 used && leb used mostTokens && leb used (length buffer) && isElement d) (shallow d) .0 e in
-        let (e, one) = and-iff (leb 2 used && leb used mostTokens && leb used (length buffer)) (isElement d) .0 e in
-        let (e, long) = and-iff (leb 2 used && leb used mostTokens) (leb used (length buffer)) .0 e in
-        let (low, high) = and-iff (leb 2 used) (leb used mostTokens) .0 e in
+        let (e, s) = and-eq-true-iff (leb 2 used && leb used mostTokens && leb used (length buffer) && isElement d) (shallow d) .0 e in
+        let (e, one) = and-eq-true-iff (leb 2 used && leb used mostTokens && leb used (length buffer)) (isElement d) .0 e in
+        let (e, long) = and-eq-true-iff (leb 2 used && leb used mostTokens) (leb used (length buffer)) .0 e in
+        let (low, high) = and-eq-true-iff (leb 2 used) (leb used mostTokens) .0 e in
         let t : IsTree d = shape-is-tree d .0 one in
         let few = leb-true (deep zero d) mostDeep s in
         let same = tree-deep d t in

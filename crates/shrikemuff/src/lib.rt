@@ -1,15 +1,12 @@
 // The host library: the five calls under the names and types of C. `include/shrikemuff.h` describes them to a host.
 //
 // A slice is a pointer and a length, a struct is C's struct. No call asks anything of its arguments, allocates or keeps state; the
-// contract of each is that of the call it hands on: the answer and every place of lent memory.
+// contract of each fixes the whole outcome: the answer and every place of lent memory. `proofs/Contracts.antt` holds them to the
+// paper's.
 // Assumes nothing.
 pub mod version;
 
-ghost use mathlib.Core.Path.{_≡_};
-ghost use Rattle.paper.specs.Files;
-ghost use Rattle.paper.specs.Table;
-ghost use Rattle.paper.specs.Judgement;
-ghost use Rattle.paper.specs.Edits;
+ghost use Rattle.paper.specs.Calls.{Reads, Writes, Translates, Checks, Performs};
 ghost use Rattle.shrikemuff.specs.Outcomes.{counted, edited};
 
 // "reader and writer [answer] a number and the count of tokens or bytes, 0 when refused"
@@ -38,7 +35,7 @@ pub struct Answer {
 // Reads a document file into the first places of the buffer.
 #[no_mangle]
 pub extern "C" fn shrike_read(file: &[u8], tokens: &mut [u32]) -> Count
-    ensures { λ r. ⌜ counted r (now (tokens .exit)) ≡ Files.read (now (file .entry)) (now (tokens .entry)) ⌝ }
+    ensures { λ r. ⌜ Reads (now (file .entry)) (now (tokens .entry)) (counted r (now (tokens .exit))) ⌝ }
 {
     let got = docfile::read(file, tokens);
     Count {
@@ -50,7 +47,7 @@ pub extern "C" fn shrike_read(file: &[u8], tokens: &mut [u32]) -> Count
 // Writes every token of the slice into the first bytes of the buffer.
 #[no_mangle]
 pub extern "C" fn shrike_write(tokens: &[u32], file: &mut [u8]) -> Count
-    ensures { λ r. ⌜ counted r (now (file .exit)) ≡ Files.write (now (tokens .entry)) (now (file .entry)) ⌝ }
+    ensures { λ r. ⌜ Writes (now (tokens .entry)) (now (file .entry)) (counted r (now (file .exit))) ⌝ }
 {
     let put = docfile::write(tokens, file);
     Count {
@@ -62,7 +59,7 @@ pub extern "C" fn shrike_write(tokens: &[u32], file: &mut [u8]) -> Count
 // Translates a schema file to a table.
 #[no_mangle]
 pub extern "C" fn shrike_translate(file: &[u8], table: &mut [u64]) -> u32
-    ensures { λ r. ⌜ (r, now (table .exit)) ≡ Table.translate (now (file .entry)) (now (table .entry)) ⌝ }
+    ensures { λ r. ⌜ Translates (now (file .entry)) (now (table .entry)) (r, now (table .exit)) ⌝ }
 {
     schema::translate(file, table)
 }
@@ -70,7 +67,7 @@ pub extern "C" fn shrike_translate(file: &[u8], table: &mut [u64]) -> u32
 // Checks the first `used` tokens of the buffer.
 #[no_mangle]
 pub extern "C" fn shrike_check(table: &[u64], doc: &[u32], used: u64) -> Verdict
-    ensures { λ r. ⌜ (r .number, r .place) ≡ Judgement.check (now (table .entry)) (now (doc .entry)) used ⌝ }
+    ensures { λ r. ⌜ Checks (now (table .entry)) (now (doc .entry)) used (r .number, r .place) ⌝ }
 {
     let said = judge::check(table, doc, used as usize);
     Verdict {
@@ -89,7 +86,7 @@ pub extern "C" fn shrike_edit(
     place: u64,
     piece: &[u32],
 ) -> Answer
-    ensures { λ r. ⌜ edited r (now (doc .exit)) ≡ Edits.edit (now (table .entry)) (now (doc .entry)) used (record { operation = operation; place = place; piece = now (piece .entry) }) ⌝ }
+    ensures { λ r. ⌜ Performs (now (table .entry)) (now (doc .entry)) used (record { operation = operation; place = place; piece = now (piece .entry) }) (edited r (now (doc .exit))) ⌝ }
 {
     let made = edits::edit(table, doc, used as usize, operation, place as usize, piece);
     Answer {

@@ -1,16 +1,18 @@
--- A block of a table, and what makes it proper. Assumes nothing.
-use mathlib.Core.Path.{_≡_, sym, ap, _∙_}
-use mathlib.Core.Bool.{Bool, true, false, not}
+-- A block of a table, where it stands. Assumes nothing.
+use mathlib.Core.Path.{_≡_, ap, _∙_}
+use mathlib.Core.Bool.{true}
 use mathlib.Core.List.{List}
-use Prim.Native.Nat.{ℕ, _+_, _-_, _*_, _≤_, _<_}
+use Prim.Native.Nat.{ℕ, _+_, _-_, _*_, _<_}
 use native.Mathlib.Omega.{arith}
-use borrow.Author.Tests.{eq-eqb, ne-eqb, le-leb, lt-leb, not-true, not-false}
 use lib.ListN.{length, take, drop, getD, length-drop}
-use lib.Seq.{take-all, length-take-le, getD-take, getD-drop}
+use lib.Seq.{length-take-le, getD-take, getD-drop}
 use Rattle.paper.specs.Basics.{mostElements}
-use Rattle.paper.specs.Table.{tableLength, blockLength, block, cell, kindAt, countAt, zeros, properSets, properModel, properBlock}
+use Rattle.paper.specs.Table.{tableLength, blockLength, block, cell, proper}
+use Rattle.table_laws.specs.Parts.{table-parts}
 
--- ---- where it stands
+-- E and the root stand in the table
+pub table-has : (t : List ℕ) (i : ℕ) → proper t ≡ true → i < 2 → i < length t
+table-has t i p h = omega (arith, table-parts t p)
 
 module _ (t : List ℕ) (e : ℕ) where
   -- its numbers are the table's
@@ -25,25 +27,3 @@ module _ (t : List ℕ) (e : ℕ) where
   pub block-length : {b : List ℕ} → b ≡ block t e → length t ≡ tableLength → e < mostElements → length b ≡ blockLength
   unfolding block
   block-length s long h = ap length s ∙ length-take-le blockLength (drop (2 + e * blockLength) t) (simp length-drop (omega arith))
-
--- ---- proper
-
-module _ (E : ℕ) (b : List ℕ) {r : Bool} (e : r ≡ properSets b) where
-  pub sets-out : not r ≡ true → false ≡ properBlock E b
-  unfolding properBlock
-  sets-out t = rw (sym e ∙ not-true r t)
-
-  module _ (t : not r ≡ false) where
-    pub plain-test : {z : Bool} → length b ≡ blockLength → cell b kindAt ≤ 1 → z ≡ zeros (take (length b - countAt) (drop countAt b)) → z ≡ properBlock E b
-    unfolding properBlock
-    plain-test long k z =
-        let s : take (length b - countAt) (drop countAt b) ≡ drop countAt b = take-all (length b - countAt) (drop countAt b) (simp length-drop (omega arith)) in
-        rw (sym e ∙ not-false r t, le-leb (cell b kindAt) 1 k) (rw s at z)
-
-    pub kind-out : 1 < cell b kindAt → (cell b kindAt ≡ 2 → ⊥) → false ≡ properBlock E b
-    unfolding properBlock
-    kind-out k n = rw (sym e ∙ not-false r t, lt-leb (cell b kindAt) 1 k, ne-eqb (cell b kindAt) 2 n)
-
-    pub kind-model : {m : Bool} → 1 < cell b kindAt → cell b kindAt ≡ 2 → m ≡ properModel E b → m ≡ properBlock E b
-    unfolding properBlock
-    kind-model k s m = rw (sym e ∙ not-false r t, lt-leb (cell b kindAt) 1 k, eq-eqb (cell b kindAt) 2 s) m

@@ -1,8 +1,8 @@
 -- The run of a block's model over the names of children, one child at a time. Assumes nothing.
-use mathlib.Core.Path.{_≡_, refl, sym, _∙_, ap}
+use mathlib.Core.Path.{_≡_, refl, sym, _∙_}
 use mathlib.Core.Bool.{Bool, true}
 use mathlib.Core.Option.{Option, none, some}
-use mathlib.Core.List.{List, [], _∷_, _++_}
+use mathlib.Core.List.{List, [], _∷_}
 use Prim.Native.Nat.{ℕ, _+_, _≤_, _<_}
 use native.Mathlib.Decide.{decLt}
 use native.Mathlib.Omega.{arith}
@@ -13,7 +13,8 @@ use lib.Seq.{getD-drop}
 use Rattle.paper.specs.Basics.{all, mostNames}
 use Rattle.paper.specs.Table.{blockLength, block, cell, kindAt, countAt, firstAt, namesAt, followAt, zeros, properNext, properBlock, proper}
 use Rattle.paper.specs.Rules.{State, start, at, move, runFrom}
-use Rattle.table_laws.specs.Parts.{all-at, ProperModel, block-parts, table-parts}
+use Rattle.paper_laws.specs.Basics.{all-at}
+use Rattle.table_laws.specs.Parts.{ProperModel, block-parts, table-parts}
 use Rattle.table.specs.Block.{block-length}
 use Rattle.table.specs.declared.Run.{Run}
 use Rattle.table.specs.declared.Run.the-variants.{Start, At, Lost}
@@ -23,20 +24,6 @@ abbrev pub stateOf : Run → Option State
 stateOf Start = some start
 stateOf (At k) = some (at k)
 stateOf Lost = none
-
--- runs that stand at the same place are the same
-abbrev runOf : Option State → Run
-runOf none = Lost
-runOf (some start) = Start
-runOf (some (at k)) = At k
-
-pub same-run : (q r : Run) → stateOf q ≡ stateOf r → q ≡ r
-same-run q r e = sym (back q) ∙ ap runOf e ∙ back r
-  where
-    back : (r : Run) → runOf (stateOf r) ≡ r
-    back Start = refl
-    back (At k) = refl
-    back Lost = refl
 
 -- the state after one more child
 abbrev pub stepped : List ℕ → Option State → ℕ → Option State
@@ -67,16 +54,6 @@ pub record Stepped (b : List ℕ) (q : Run) (a : ℕ) (r : Run) : Type 0 where
 
 -- ---- children one after the other
 
--- the run over a list of children is a step for each
-pub run-more : (b : List ℕ) (s : State) (w : List ℕ) (a : ℕ) → runFrom b s (w ++ a ∷ []) ≡ stepped b (runFrom b s w) a
-run-more b s [] a = refl
-run-more b s (x ∷ w) a = go (move b s x) (λ k. run-more b (at k) w a)
-  where
-    go : (o : Option ℕ) → ((k : ℕ) → runFrom b (at k) (w ++ a ∷ []) ≡ stepped b (runFrom b (at k) w) a)
-        → elim o [ none ↦ none | some k ↦ runFrom b (at k) (w ++ a ∷ []) ] ≡ stepped b (elim o [ none ↦ none | some k ↦ runFrom b (at k) w ]) a
-    go none f = refl
-    go (some k) f = f k
-
 -- the run from a state on, where there is one
 abbrev pub onward : List ℕ → Option State → List ℕ → Option State
 onward b none w = none
@@ -90,7 +67,7 @@ onward-step b (some s) a w = go (move b s a)
     go none = refl
     go (some k) = refl
 
--- ---- what a proper table has
+-- ---- a block of a proper table, of any kind, can be run
 
 -- kinds 0 and 1 have no occurrence
 ready-plain : (b : List ℕ) → length b ≡ blockLength → zeros (drop countAt b) ≡ true → Ready b
@@ -103,10 +80,10 @@ ready-plain b long z =
       follow-sets = rw (none 0);
     }
 
-pub ready-model : (E : ℕ) (b : List ℕ) → length b ≡ blockLength → ProperModel E b → Ready b
+ready-model : (E : ℕ) (b : List ℕ) → length b ≡ blockLength → ProperModel E b → Ready b
 ready-model E b long m = record { long = long; few = m .few-names; first-set = m .first-set; follow-sets = m .follow-sets }
 
-pub ready-block : (E : ℕ) (b : List ℕ) → length b ≡ blockLength → properBlock E b ≡ true → Ready b
+ready-block : (E : ℕ) (b : List ℕ) → length b ≡ blockLength → properBlock E b ≡ true → Ready b
 ready-block E b long e =
     let p = block-parts E b e in
     elim (decLt 1 (cell b kindAt)) [ yes h ↦ ready-model E b long (p .modelled h .1) | no h ↦ ready-plain b long (p .plain (omega arith)) ]

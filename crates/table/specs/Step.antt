@@ -1,9 +1,9 @@
 -- A step of a run, and its end, as the code finds them. Assumes nothing.
-use mathlib.Core.Path.{_≡_, refl, sym, ap, ap₂, _∙_}
-use mathlib.Core.Bool.{Bool, true, false, cond, _&&_}
+use mathlib.Core.Path.{_≡_, refl, sym, ap, _∙_}
+use mathlib.Core.Bool.{Bool, true, _&&_, and-eq-true-iff}
 use mathlib.Core.Option.{Option, none, some}
 use mathlib.Core.List.{List}
-use Prim.Native.Nat.{ℕ, zero, suc, _+_, _^_, _≤_, _<_}
+use Prim.Native.Nat.{ℕ, _+_, _^_, _≤_, _<_}
 use native.Mathlib.Omega.{arith}
 use borrow.Author.Tests.{ltb-true, lt-ltb}
 use lib.Dec.{ltb, eqb}
@@ -14,12 +14,11 @@ use Rattle.paper.specs.Basics.{find, distinct, mostNames}
 use Rattle.paper.specs.Sets.{bit}
 use Rattle.paper.specs.Table.{cell, countAt, noChildAt, firstAt, lastAt, namesAt, followAt, chosen}
 use Rattle.paper.specs.Rules.{State, start, at, setAt, move, ended}
-use Rattle.sets.specs.Laws.{and-parts}
+use Rattle.paper_laws.specs.Basics.{find-some, find-same, all-at}
 use Rattle.sets.specs.Chosen.{chosen-none, chosen-take}
-use Rattle.sets.specs.Named.{Named, place, named-find}
+use Rattle.sets.specs.Named.{nextNamed, place, named-find}
 use Rattle.sets.specs.declared.Next.{Next}
 use Rattle.sets.specs.declared.Next.the-variants.{At as There, Nowhere}
-use Rattle.table_laws.specs.Parts.{all-at}
 use Rattle.table.specs.Run.{stateOf, stepped, inside, sound, Ready, Stepped}
 use Rattle.table.specs.declared.Run.{Run}
 use Rattle.table.specs.declared.Run.the-variants.{Start, At, Lost}
@@ -34,18 +33,6 @@ toRun (some k) = At k
 abbrev pub moved : List ℕ → ℕ → ℕ → Run
 moved b w a = toRun (find (λ k. bit w k && eqb (cell b (namesAt + k)) a) (cell b countAt))
 
-find-same : (S T : ℕ → Bool) (n : ℕ) → ((k : ℕ) → k < n → S k ≡ T k) → find S n ≡ find T n
-find-same S T zero h = refl
-find-same S T (suc n) h = ap₂ (λ c r. cond c (some n) r) (h n (omega arith)) (find-same S T n (λ k i. h k (omega arith)))
-
-find-below : (S : ℕ → Bool) (n k : ℕ) → find S n ≡ some k → k < n
-find-below S zero k e = let z : _≡_ {A = ℕ} 0 1 = cc in absurd (omega arith)
-find-below S (suc n) k e = go (S n) e (find-below S n k)
-  where
-    go : (c : Bool) → cond c (some n) (find S n) ≡ some k → (find S n ≡ some k → k < n) → k < suc n
-    go true q f = let z : n ≡ k = cc in omega arith
-    go false q f = let z = f q in omega arith
-
 module _ (b : List ℕ) (g : Ready b) (w a : ℕ) (p : sound b w ≡ true) where
   abbrev n : ℕ
   n = cell b countAt
@@ -53,9 +40,9 @@ module _ (b : List ℕ) (g : Ready b) (w a : ℕ) (p : sound b w ≡ true) where
   abbrev names : List ℕ
   names = take mostNames (drop namesAt b)
 
-  next-move : (r : Next) → Named w names a r → toRun (place r) ≡ moved b w a
+  next-move : (r : Next) → r ≡ nextNamed w names a → toRun (place r) ≡ moved b w a
   next-move r m =
-      let (h, d) = and-parts (ltb w (2 ^ n)) (distinct (chosen w (take n (drop namesAt b)))) p in
+      let (h, d) = and-eq-true-iff (ltb w (2 ^ n)) (distinct (chosen w (take n (drop namesAt b)))) .0 p in
       let i : w < 2 ^ n = ltb-true w (2 ^ n) h in
       let few : n ≤ mostNames = g .few in
       let long : length names ≡ mostNames = length-take-le mostNames (drop namesAt b) (let l = g .long in simp length-drop (omega arith)) in
@@ -64,10 +51,10 @@ module _ (b : List ℕ) (g : Ready b) (w a : ℕ) (p : sound b w ≡ true) where
       ∙ find-same (λ k. bit w k && eqb (getD names k 0) a) (λ k. bit w k && eqb (cell b (namesAt + k)) a) n
       (λ k l. ap (λ x. bit w k && eqb x a) (getD-take mostNames (drop namesAt b) k 0 (omega arith) ∙ getD-drop namesAt b k 0)))
 
-  pub move-there : {r : Next} {k : ℕ} → Named w (take mostNames (drop namesAt b)) a r → r ≡ There k → At k ≡ moved b w a
+  pub move-there : {r : Next} {k : ℕ} → r ≡ nextNamed w (take mostNames (drop namesAt b)) a → r ≡ There k → At k ≡ moved b w a
   move-there {r} {k} m e = next-move (There k) (rw e at m)
 
-  pub move-nowhere : {r : Next} → Named w (take mostNames (drop namesAt b)) a r → r ≡ Nowhere → Lost ≡ moved b w a
+  pub move-nowhere : {r : Next} → r ≡ nextNamed w (take mostNames (drop namesAt b)) a → r ≡ Nowhere → Lost ≡ moved b w a
   move-nowhere {r} m e = next-move Nowhere (rw e at m)
 
 -- ---- a step, and the end
@@ -93,7 +80,7 @@ module _ (b : List ℕ) (g : Ready b) where
       go : (o : Option ℕ) → move b s a ≡ o
           → (stateOf (toRun o) ≡ elim o [ none ↦ none | some k ↦ some (at k) ]) × (inside b (stateOf (toRun o)) ≡ true)
       go none q = (refl, refl)
-      go (some k) q = (refl, lt-ltb k (cell b countAt) (find-below (λ k. bit (setAt b s) k && eqb (cell b (namesAt + k)) a) (cell b countAt) k q))
+      go (some k) q = (refl, lt-ltb k (cell b countAt) (find-some (λ k. bit (setAt b s) k && eqb (cell b (namesAt + k)) a) (cell b countAt) k q .0))
 
   step-by : (s : State) (a : ℕ) {q r : Run} → stateOf q ≡ some s → r ≡ moved b (setAt b s) a → Stepped b q a r
   step-by s a {q} {r} e m = let (t, i) = stay-inside s a in record { same = ap stateOf m ∙ t ∙ ap (λ o. stepped b o a) (sym e); within = rw m i }

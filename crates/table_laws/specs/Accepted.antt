@@ -1,62 +1,30 @@
 -- All that a schema that was read keeps to. Assumes nothing.
-use mathlib.Core.Path.{_≡_, refl, sym, ap, subst}
+use mathlib.Core.Path.{_≡_, refl, sym, ap, _∙_, subst}
 use mathlib.Core.Bool.{Bool, true, false, cond, _&&_, _||_}
 use mathlib.Core.Option.{Option, none, some}
-use mathlib.Core.List.{List, [], _∷_, _++_}
+use mathlib.Core.List.{List, [], _∷_}
 use Prim.Native.Nat.{ℕ, zero, suc, _+_, _-_, _≤_, _<_}
 use native.Mathlib.Omega.{arith}
-use borrow.Author.Tests.{leb-true, le-leb, lt-ltb}
+use borrow.Author.Tests.{leb-true, le-leb}
 use lib.Dec.{leb, ltb, eqb}
 use lib.ListN.{length}
-use Rattle.paper.specs.Basics.{mostElements, mostNames, mostAttributes, all}
-use Rattle.paper.specs.Schema.{mostSymbols, exprOf, symbolsOf, Attribute, Content, model, Element, Schema, ok, pure, refuse, number, numbers, modelled, contentAs, kindAfter, attributesFrom, element, elementsOf, schemaOf}
-use Rattle.content_laws.specs.Symbols.{exprOf-iff}
-use Rattle.paper.specs.Expressions.{Expr, name, seq, alt, opt, star, plus, names, count}
+use Rattle.paper.specs.Basics.{mostElements, mostNames, mostAttributes, between, all}
+use Rattle.paper.specs.Schema.{mostSymbols, exprOf, Attribute, Content, model, Element, Schema, ok, pure, refuse, number, numbers, modelled, contentAs, kindAfter, attributesFrom, element, elementsOf, schemaOf}
+use Rattle.basic_laws.specs.Bools.{both}
+use Rattle.content_laws.specs.Symbols.{exprOf-iff, range-names}
+use Rattle.paper.specs.Expressions.{Expr, names, count}
 use Rattle.paper.specs.Sets.{ambiguous}
 use Rattle.table_laws.specs.SameRules.{Fine}
 use Rattle.table_laws.specs.Readers.{after, never-stop, number-in, finished-same}
 
 -- ---- names below E
 
-and-parts : (a b : Bool) → a && b ≡ true → (a ≡ true) × (b ≡ true)
-and-parts true b e = (refl, e)
-and-parts false b e = let z : _≡_ {A = ℕ} 0 1 = cc in absurd (omega arith)
-
-both : {a b : Bool} → a ≡ true → b ≡ true → a && b ≡ true
-both {a} {b} p q = rw p q
-
-module _ {A : Type 0} (P : A → Bool) where
-  pub all-split : (l m : List A) → all P (l ++ m) ≡ true → (all P l ≡ true) × (all P m ≡ true)
-  all-split [] m e = (refl, e)
-  all-split (x ∷ l) m e =
-      let (p, q) = and-parts (P x) (all P (l ++ m)) e in
-      let (r, s) = all-split l m q in
-      (both p r, s)
-
-  pub all-join : (l m : List A) → all P l ≡ true → all P m ≡ true → all P (l ++ m) ≡ true
-  all-join [] m e f = f
-  all-join (x ∷ l) m e f = let (p, q) = and-parts (P x) (all P l) e in both p (all-join l m q f)
-
 module _ (E : ℕ) where
   abbrev pub Below : Expr → Type 0
   Below e = all (λ a. ltb a E) (names e) ≡ true
 
   abbrev Symbols : List ℕ → Type 0
-  Symbols l = all (λ x. leb x (4 + E)) l ≡ true
-
-  symbols-below : (e : Expr) → Symbols (symbolsOf e) → Below e
-  symbols-below (name a) h =
-      let (p, q) = and-parts (leb (5 + a) (4 + E)) true h in
-      both (lt-ltb a E (let k = leb-true (5 + a) (4 + E) p in omega arith)) refl
-  symbols-below (seq e f) h =
-      let (p, q) = all-split (λ x. leb x (4 + E)) (symbolsOf e) (symbolsOf f) (and-parts (leb 0 (4 + E)) (all (λ x. leb x (4 + E)) (symbolsOf e ++ symbolsOf f)) h .1) in
-      all-join (λ a. ltb a E) (names e) (names f) (symbols-below e p) (symbols-below f q)
-  symbols-below (alt e f) h =
-      let (p, q) = all-split (λ x. leb x (4 + E)) (symbolsOf e) (symbolsOf f) (and-parts (leb 1 (4 + E)) (all (λ x. leb x (4 + E)) (symbolsOf e ++ symbolsOf f)) h .1) in
-      all-join (λ a. ltb a E) (names e) (names f) (symbols-below e p) (symbols-below f q)
-  symbols-below (opt e) h = symbols-below e (and-parts (leb 2 (4 + E)) (all (λ x. leb x (4 + E)) (symbolsOf e)) h .1)
-  symbols-below (star e) h = symbols-below e (and-parts (leb 3 (4 + E)) (all (λ x. leb x (4 + E)) (symbolsOf e)) h .1)
-  symbols-below (plus e) h = symbols-below e (and-parts (leb 4 (4 + E)) (all (λ x. leb x (4 + E)) (symbolsOf e)) h .1)
+  Symbols l = all (between 0 (4 + E)) l ≡ true
 
   numbers-in : (n : ℕ) (s : List ℕ) {l r : List ℕ} → numbers n 0 (4 + E) s ≡ ok l r → Symbols l
   numbers-in zero s {l} {r} e = let d : l ≡ [] = cc in rw d
@@ -64,7 +32,8 @@ module _ (E : ℕ) where
       after (number 0 (4 + E) s) _ e λ x t p f.
       after (numbers n 0 (4 + E) t) _ f λ xs u g h.
       let d : l ≡ x ∷ xs = made h in
-      rw d (both (le-leb x (4 + E) (number-in 0 (4 + E) s p .1)) (numbers-in n t g))
+      let (low, high) = number-in 0 (4 + E) s p in
+      rw d (both (both (le-leb 0 x low) (le-leb x (4 + E) high)) (numbers-in n t g))
     where
       made : {a w : List ℕ} → ok a w ≡ ok l r → l ≡ a
       made e = cc
@@ -81,7 +50,7 @@ module _ (E : ℕ) where
       go : (a b : Bool) → leb (count d) mostNames ≡ a → ambiguous d ≡ b → cond a (cond b (refuse 3) (pure (model d))) (refuse 2) s ≡ ok c r → Good x
       go true false p u e =
           let same : d ≡ x = cc in
-          subst Good same (record { fine = record { small = leb-true (count d) mostNames p; clear = u }; below = symbols-below d (rw (exprOf-iff l d .0 w) h) })
+          subst Good same (record { fine = record { small = leb-true (count d) mostNames p; unambiguous = u }; below = sym (range-names E d) ∙ rw (exprOf-iff l d .0 w) h })
       go true true p u e = never-stop e
       go false b p u e = never-stop e
 

@@ -3,5 +3,6 @@ pub mod Readers
 pub mod Parts
 pub mod SameRules
 pub mod Accepted
+pub mod ProperSets
 pub mod ProperTable
 pub mod Translated

@@ -1,34 +1,22 @@
 -- What a proper table has, part by part. Assumes nothing.
-use mathlib.Core.Path.{_≡_, refl, _∙_}
-use mathlib.Core.Bool.{Bool, true, false, cond, _&&_}
-use mathlib.Core.List.{List, [], _∷_}
-use Prim.Native.Nat.{ℕ, zero, suc, _+_, _-_, _*_, _^_, _≤_, _<_}
-use native.Mathlib.Omega.{arith}
-use native.Mathlib.Decide.{ℕ-discrete}
+use mathlib.Core.Path.{_≡_, _∙_}
+use mathlib.Core.Bool.{true, cond, _&&_, and-eq-true-iff}
+use mathlib.Core.List.{List}
+use Prim.Native.Nat.{ℕ, _+_, _-_, _*_, _^_, _≤_, _<_}
 use borrow.Author.Tests.{eqb-true, ltb-true, lt-ltb, leb-true, le-leb, lt-leb}
 use lib.Dec.{leb, ltb, eqb}
 use lib.ListN.{length, take, drop, getD}
 use lib.Seq.{getD-take, getD-drop}
 use Rattle.paper.specs.Basics.{mostElements, mostNames, between, every, all}
+use Rattle.paper_laws.specs.Basics.{every-iff, all-at}
 use Rattle.paper.specs.Table.{tableLength, blockLength, block, cell, kindAt, countAt, noChildAt, firstAt, lastAt, namesAt, followAt, zeros, properSets, properNext, properModel, properBlock, proper}
 
-pub and-both : (a b : Bool) → a && b ≡ true → (a ≡ true) × (b ≡ true)
-and-both true b e = (refl, e)
-and-both false b e = let z : _≡_ {A = ℕ} 0 1 = cc in absurd (omega arith)
-
-pub every-at : (S : ℕ → Bool) (n k : ℕ) → k < n → every S n ≡ true → S k ≡ true
-every-at S zero k i e = absurd (omega arith)
-every-at S (suc n) k i e =
-    let (a, b) = and-both (S n) (every S n) e in
-    elim (ℕ-discrete k n) [ yes c ↦ rw c a | no c ↦ every-at S n k (omega arith) b ]
-
--- P holds of each in the list and of 0, so of what stands at any index
-pub all-at : (P : ℕ → Bool) → P 0 ≡ true → (l : List ℕ) → all P l ≡ true → (k : ℕ) → P (getD l k 0) ≡ true
-all-at P z [] e k = z
-all-at P z (x ∷ l) e zero = and-both (P x) (all P l) e .0
-all-at P z (x ∷ l) e (suc k) = all-at P z l (and-both (P x) (all P l) e .1) k
-
 -- ---- the table
+
+-- a block's numbers are the table's
+pub cell-at : (t : List ℕ) (e i : ℕ) → i < blockLength → cell (block t e) i ≡ getD t (2 + e * blockLength + i) 0
+unfolding block
+cell-at t e i h = getD-take blockLength (drop (2 + e * blockLength) t) i 0 h ∙ getD-drop (2 + e * blockLength) t i 0
 
 pub record ProperTable (t : List ℕ) : Type 0 where
   pub long : length t ≡ tableLength
@@ -42,17 +30,17 @@ pub table-parts : (t : List ℕ) → proper t ≡ true → ProperTable t
 unfolding proper
 table-parts t e =
     let E : ℕ = getD t 0 0 in
-    let (f, unused) = and-both _ (zeros (drop (2 + E * blockLength) t)) e in
-    let (g, blocks) = and-both _ (every (λ e. properBlock E (block t e)) E) f in
-    let (h, root) = and-both _ (ltb (getD t 1 0) E) g in
-    let (long, range) = and-both (eqb (length t) tableLength) (between 1 mostElements E) h in
-    let (low, high) = and-both (leb 1 E) (leb E mostElements) range in
+    let (f, unused) = and-eq-true-iff _ (zeros (drop (2 + E * blockLength) t)) .0 e in
+    let (g, blocks) = and-eq-true-iff _ (every (λ e. properBlock E (block t e)) E) .0 f in
+    let (h, root) = and-eq-true-iff _ (ltb (getD t 1 0) E) .0 g in
+    let (long, range) = and-eq-true-iff (eqb (length t) tableLength) (between 1 mostElements E) .0 h in
+    let (low, high) = and-eq-true-iff (leb 1 E) (leb E mostElements) .0 range in
     record {
       long = eqb-true (length t) tableLength long;
       some-elements = leb-true 1 E low;
       few-elements = leb-true E mostElements high;
       root-below = ltb-true (getD t 1 0) E root;
-      blocks = λ e i. every-at (λ e. properBlock E (block t e)) E e i blocks;
+      blocks = every-iff (λ e. properBlock E (block t e)) E .0 blocks;
       unused = unused;
     }
 
@@ -75,14 +63,14 @@ unfolding properModel
 model-parts E b e =
     let n : ℕ = cell b countAt in
     let used : List ℕ = take n (drop namesAt b) in
-    let (e, follow-unused) = and-both _ (zeros (drop (followAt + n) b)) e in
-    let (e, follow-sets) = and-both _ (all (properNext n used) (take n (drop followAt b))) e in
-    let (e, names-unused) = and-both _ (zeros (take (mostNames - n) (drop (namesAt + n) b))) e in
-    let (e, names-below) = and-both _ (all (λ a. ltb a E) used) e in
-    let (e, last-set) = and-both _ (ltb (cell b lastAt) (2 ^ n)) e in
-    let (e, first-set) = and-both _ (properNext n used (cell b firstAt)) e in
-    let (e, flag) = and-both (between 1 mostNames n) (leb (cell b noChildAt) 1) e in
-    let (low, high) = and-both (leb 1 n) (leb n mostNames) e in
+    let (e, follow-unused) = and-eq-true-iff _ (zeros (drop (followAt + n) b)) .0 e in
+    let (e, follow-sets) = and-eq-true-iff _ (all (properNext n used) (take n (drop followAt b))) .0 e in
+    let (e, names-unused) = and-eq-true-iff _ (zeros (take (mostNames - n) (drop (namesAt + n) b))) .0 e in
+    let (e, names-below) = and-eq-true-iff _ (all (λ a. ltb a E) used) .0 e in
+    let (e, last-set) = and-eq-true-iff _ (ltb (cell b lastAt) (2 ^ n)) .0 e in
+    let (e, first-set) = and-eq-true-iff _ (properNext n used (cell b firstAt)) .0 e in
+    let (e, flag) = and-eq-true-iff (between 1 mostNames n) (leb (cell b noChildAt) 1) .0 e in
+    let (low, high) = and-eq-true-iff (leb 1 n) (leb n mostNames) .0 e in
     record {
       some-names = leb-true 1 n low;
       few-names = leb-true n mostNames high;
@@ -105,11 +93,11 @@ pub block-parts : (E : ℕ) (b : List ℕ) → properBlock E b ≡ true → Prop
 unfolding properBlock
 block-parts E b e =
     let k : ℕ = cell b kindAt in
-    let (sets, rest) = and-both (properSets b) (cond (leb k 1) (zeros (drop countAt b)) (eqb k 2 && properModel E b)) e in
+    let (sets, rest) = and-eq-true-iff (properSets b) (cond (leb k 1) (zeros (drop countAt b)) (eqb k 2 && properModel E b)) .0 e in
     record {
       sets = sets;
       plain = λ h. rw (le-leb k 1 h) at rest;
-      modelled = λ h. let (two, m) = and-both (eqb k 2) (properModel E b) (rw (lt-leb k 1 h) at rest) in (eqb-true k 2 two, model-parts E b m);
+      modelled = λ h. let (two, m) = and-eq-true-iff (eqb k 2) (properModel E b) .0 (rw (lt-leb k 1 h) at rest) in (eqb-true k 2 two, model-parts E b m);
     }
 
 -- the name of an occurrence

@@ -21,12 +21,15 @@ use Rattle.paper.specs.Rules.{undeclared, elementAt, has, describedBy, ofSchema
 use Rattle.paper.specs.Expressions.{Expr, names, count, nameAt, Ambiguous}
 use Rattle.content_laws.specs.Names.{length-names}
 use Rattle.paper.specs.Sets.{nullable, bit, followWord, ambiguous}
+use Rattle.paper_laws.specs.Words.{bit-or, bit-one, bit-when, bit-zero}
+use Rattle.paper_laws.specs.Basics.{length-pad, length-from, find-same}
+use Rattle.basic_laws.specs.Bools.{same-test}
+use Rattle.basic_laws.specs.Tests.{and-iff, true-iff}
 use Rattle.content_laws.specs.Walk.{next, ends, Of, next-of}
-use Rattle.content_laws.specs.Words.{bit-or, bit-one, bit-when, bit-zero, first-word, last-word, follow-word}
+use Rattle.content_laws.specs.Words.{first-word, last-word, follow-word}
 use Rattle.content_laws.specs.Below.{find-cases}
 use Rattle.content_laws.specs.Decide.{decides}
 use Rattle.content_laws.specs.Run.{choices, step, run, answer, accepts, accepts-iff}
-use Rattle.content_laws.specs.Tools.{and-iff}
 
 -- ---- sets of attributes
 
@@ -39,17 +42,13 @@ set-bit P (y ∷ l) a = rw (bit-or, bit-when, bit-one, set-bit P l a)
 -- a model that the translator takes
 pub record Fine (e : Expr) : Type 0 where
   pub small : count e ≤ mostNames
-  pub clear : ambiguous e ≡ false
+  pub unambiguous : ambiguous e ≡ false
 
-pub length-pad : (n : ℕ) (l : List ℕ) → length l ≤ n → length (pad n l) ≡ n
-length-pad n l h = length-append l (replicate (n - length l) 0) ∙ ap (λ k. length l + k) (length-replicate (n - length l) 0) ∙ omega arith
+pub not-ambiguous : {e : Expr} → Fine e → ¬ Ambiguous e
+not-ambiguous {e} f a = subst T (f .unambiguous) (decides e .1 a)
 
 pad-at : (n : ℕ) (l : List ℕ) (k : ℕ) → k < length l → getD (pad n l) k 0 ≡ getD l k 0
 pad-at n l k h = List·getD-append l (replicate (n - length l) 0) 0 k h
-
-pub length-from : (b n : ℕ) → length (from b n) ≡ n
-length-from b zero = refl
-length-from b (suc n) = ap suc (length-from (suc b) n)
 
 from-at : (f : ℕ → ℕ) (b n k : ℕ) → k < n → getD (map f (from b n)) k 0 ≡ f (b + k)
 from-at f b zero k h = absurd (not-suc-le-zero h)
@@ -97,10 +96,6 @@ module _ (l : List Attribute) (e : Expr) (fine : Fine e) where
       flag false = refl
   end-bit (at k) = last-word 0 e k
 
-  find-same : (S Z : ℕ → Bool) (n : ℕ) → ((k : ℕ) → k < n → S k ≡ Z k) → find S n ≡ find Z n
-  find-same S Z zero h = refl
-  find-same S Z (suc n) h = ap₂ (λ c r. cond c (some n) r) (h n (omega arith)) (find-same S Z n (λ k i. h k (omega arith)))
-
   move-step : (s : State) → Of 0 e s → (a : ℕ) → move b s a ≡ step e s a
   move-step s i a = find-same (λ k. bit (setAt b s) k && eqb (cell b (namesAt + k)) a) (choices e s a) (count e)
       (λ k h. ap₂ (λ c n. c && eqb n a) (next-bit s i k) (name-at k h))
@@ -123,20 +118,11 @@ module _ (l : List Attribute) (e : Expr) (fine : Fine e) where
   pub runs-matches : (w : List ℕ) → runs b w ≡ matches e w
   runs-matches w = ap (ended b) (run-same start tt w) ∙ ended-same (run e start w) ∙ same-test (accepts e w) (matches e w) there back
     where
-      clear : ¬ Ambiguous e
-      clear a = subst T (fine .clear) (decides e .1 a)
+      there : accepts e w ≡ true → matches e w ≡ true
+      there t = true-iff (matches e w) .1 (matches-iff e w .1 (accepts-iff e (not-ambiguous fine) w .0 (true-iff (accepts e w) .0 t)))
 
-      there : T (accepts e w) → T (matches e w)
-      there t = matches-iff e w .1 (accepts-iff e clear w .0 t)
-
-      back : T (matches e w) → T (accepts e w)
-      back t = accepts-iff e clear w .1 (matches-iff e w .0 t)
-
-      same-test : (p q : Bool) → (T p → T q) → (T q → T p) → p ≡ q
-      same-test true true f g = refl
-      same-test true false f g = absurd (f tt)
-      same-test false true f g = absurd (g tt)
-      same-test false false f g = refl
+      back : matches e w ≡ true → accepts e w ≡ true
+      back t = true-iff (accepts e w) .1 (accepts-iff e (not-ambiguous fine) w .1 (matches-iff e w .0 (true-iff (matches e w) .0 t)))
 
 -- a block with no occurrence and no flag takes nothing
 runs-none : (b : List ℕ) → cell b countAt ≡ 0 → cell b noChildAt ≡ 0 → (w : List ℕ) → runs b w ≡ false

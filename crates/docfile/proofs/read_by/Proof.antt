@@ -13,8 +13,8 @@ decode-requires c κs = search needs
 cast-n : tie.Need-cast-n
 cast-n c = search needs
 
-copy-requires : tie.Need-copy-requires
-copy-requires c κs = search (read-held, read-fits, needs)
+copy-tokens-requires : tie.Need-copy-tokens-requires
+copy-tokens-requires c κs = search (read-held, read-fits, needs)
 
 same-length : tie.Need-same-length
 same-length c = search needs
@@ -32,7 +32,7 @@ read-by-spec =
     places-requires
     decode-requires
     cast-n
-    copy-requires
+    copy-tokens-requires
     same-length
     same-length-2
     returns)

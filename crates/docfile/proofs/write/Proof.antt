@@ -11,16 +11,14 @@ refusal-requires c κs = search needs
 returns : tie.Need-returns
 returns c = search write-many
 
-highest-requires : tie.Need-highest-requires
-highest-requires c κs = search needs
+all-small-requires : tie.Need-all-small-requires
+all-small-requires c κs = search needs
 
 refusal-requires-2 : tie.Need-refusal-requires-2
 refusal-requires-2 c κs = search needs
 
 returns-2 : tie.Need-returns-2
-returns-2 c =
-    let d = c .before .before in
-    write-large _ _ (d .before .if1 .left) (d .highest .ensures) (omega arith) (c .refusal2 .ensures)
+returns-2 c = search write-large
 
 count-bytes-requires : tie.Need-count-bytes-requires
 count-bytes-requires c κs = search needs
@@ -34,10 +32,10 @@ returns-3 c = search write-full
 put-bytes-requires : tie.Need-put-bytes-requires
 put-bytes-requires c κs =
     let d = c .before .before .before in
-    write-ready _ _ (d .before .before .if1 .left) (d .before .highest .ensures) (d .if2 .left) (c .before .before .count-bytes .ensures) (c .before .if3 .left)
+    write-ready _ _ (d .before .before .if1 .left) (d .before .all-small .ensures) (d .if2 .left) (c .before .before .count-bytes .ensures) (c .before .if3 .left)
 
-cast-t6 : tie.Need-cast-t6
-cast-t6 c =
+cast-count : tie.Need-cast-count
+cast-count c =
     let d = c .before .before .before .before .before in
     omega (arith, d .count-bytes .ensures, file-long (d .before .before .before .before .before .before .args .tokens .now))
 
@@ -53,13 +51,13 @@ write-spec =
     (tie.spec
     refusal-requires
     returns
-    highest-requires
+    all-small-requires
     refusal-requires-2
     returns-2
     count-bytes-requires
     refusal-requires-3
     returns-3
     put-bytes-requires
-    cast-t6
+    cast-count
     same-length
     returns-4)

@@ -11,6 +11,7 @@ use mir.Syntax.{w32}
 use mir.Val.{SFits, toZ}
 use mir.Facts.{toZ-pos, toZ-ofZ}
 use borrow.Author.Needs.{needs}
+use Rattle.paper.specs.Basics.{mostTokens}
 use Rattle.edits.proofs.change_of.Statement.{statement}
 use Rattle.edits.proofs.change_of.Tie as tie
 
@@ -27,7 +28,7 @@ read : (c : tie.Start) → toZ w32 (c .args .new) -ℤ toZ w32 (c .args .old) �
 read c = ap₂ _-ℤ_ (toZ-pos w32 {n = c .args .new} (omega arith)) (toZ-pos w32 {n = c .args .old} (omega arith))
 
 held : (c : tie.Start) → SFits w32 (pos (c .args .new) -ℤ pos (c .args .old))
-held c = let h : mag (pos (c .args .new) -ℤ pos (c .args .old)) ≤ 8192 + 8192 = mag-diff (c .args .new) (c .args .old) 8192 (c .pre .1) (c .pre .0) in record { sfits = omega arith }
+held c = let h : mag (pos (c .args .new) -ℤ pos (c .args .old)) ≤ mostTokens + mostTokens = mag-diff (c .args .new) (c .args .old) mostTokens (c .pre .1) (c .pre .0) in record { sfits = omega arith }
 
 cast-result : tie.Need-cast-result
 cast-result c = search needs

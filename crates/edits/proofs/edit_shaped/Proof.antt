@@ -4,7 +4,7 @@ use mir.Syntax.{w32}
 use mir.Val.{toZ, ofZ}
 use native.Mathlib.Omega.{arith}
 use Rattle.edits.specs.Outcomes.{edit-form, edit-fault, edit-done, ready-few, ready-room, ready-long, ready-within, ready-at, ready-front}
-use Rattle.edits.specs.Form.{shaped-few, shaped-long}
+use Rattle.form.specs.Form.{shaped-few, shaped-long}
 use borrow.Author.Needs.{needs}
 use Rattle.edits.proofs.edit_shaped.Statement.{statement}
 use Rattle.edits.proofs.edit_shaped.Tie as tie

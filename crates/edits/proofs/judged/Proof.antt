@@ -1,5 +1,5 @@
 -- `edits::judged` meets its contract. Assumes nothing.
-use Rattle.judge.specs.Content.{closed}
+use Rattle.children.specs.Closed.{closed}
 use Rattle.edits.specs.Touched.{judged-touched}
 use borrow.Author.Needs.{needs}
 use Rattle.edits.proofs.judged.Statement.{statement}
@@ -17,7 +17,7 @@ slice-aggregate-touched-fault c = search needs
 touched-fault-requires : tie.Need-touched-fault-requires
 touched-fault-requires c κs =
     let s = c .before .before .before .before .before .before in
-    (s .pre .0, (closed (s .args .doc .now) (s .args .used) _ (s .pre .1 .0) (c .before .before .closes2 .ensures), s .pre .1))
+    (s .pre .0, (closed (s .args .doc .now) (s .args .used) _ (s .pre .1 .0) (c .before .before .closes .ensures), s .pre .1))
 
 judged-with-requires : tie.Need-judged-with-requires
 judged-with-requires c κs = search needs

@@ -4,8 +4,11 @@ use borrow.Author.Needs.{needs}
 use Rattle.edits.proofs.write.Statement.{statement}
 use Rattle.edits.proofs.write.Tie as tie
 
-put-back-requires : tie.Need-put-back-requires
-put-back-requires c κs = search needs
+sub-copy-tokens : tie.Need-sub-copy-tokens
+sub-copy-tokens c = search needs
+
+copy-tokens-requires : tie.Need-copy-tokens-requires
+copy-tokens-requires c κs = search needs
 
 clear-requires : tie.Need-clear-requires
 clear-requires c κs = search needs
@@ -17,4 +20,4 @@ returns : tie.Need-returns
 returns c = search put-written
 
 pub write-spec : {M : Type 1} → statement M
-write-spec = tie.close (tie.spec put-back-requires clear-requires same-length returns)
+write-spec = tie.close (tie.spec sub-copy-tokens copy-tokens-requires clear-requires same-length returns)

@@ -1,7 +1,7 @@
 -- `judge::check` meets its contract. Assumes nothing.
 use native.Mathlib.Omega.{arith}
 use borrow.Author.Needs.{needs}
-use Rattle.judge.specs.Content.{closed}
+use Rattle.children.specs.Closed.{closed}
 use Rattle.judge.specs.Check.{is-proper, shape-fits, check-table, check-shape, check-judged}
 use Rattle.judge.proofs.check.Statement.{statement}
 use Rattle.judge.proofs.check.Tie as tie

@@ -1,6 +1,6 @@
 -- `judge::fault_from` meets its contract. Assumes nothing.
 use borrow.Author.Needs.{needs}
-use Rattle.judge.specs.Attributes.{table-has}
+use Rattle.table.specs.Block.{table-has}
 use Rattle.judge.specs.Elements.{fault-name, fault-attributes, fault-content, fault-none}
 use Rattle.judge.proofs.fault_from.Statement.{statement}
 use Rattle.judge.proofs.fault_from.Tie as tie

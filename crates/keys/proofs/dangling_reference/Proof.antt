@@ -3,7 +3,7 @@
 use Prim.Native.Nat.{_-_}
 use borrow.Author.Needs.{needs}
 use lib.ListN.{take}
-use Rattle.keys.specs.Key.{valuesIn}
+use Rattle.gather.specs.Key.{valuesIn}
 use Rattle.keys.specs.Compare.{Resolving, resolve-none, resolve-end, resolve-found, resolve-more}
 use Rattle.keys.proofs.dangling_reference.Statement.{statement}
 use Rattle.keys.proofs.dangling_reference.Tie as tie

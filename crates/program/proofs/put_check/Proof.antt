@@ -2,7 +2,7 @@
 use mathlib.Core.Path.{_∙_}
 use native.Mathlib.Omega.{arith}
 use borrow.Author.Needs.{needs}
-use Rattle.program.specs.Put.{put-length}
+use Rattle.lines.specs.Put.{put-length}
 use Rattle.program.specs.Stages.{check-ends, check-goes}
 use Rattle.program.proofs.put_check.Statement.{statement}
 use Rattle.program.proofs.put_check.Tie as tie

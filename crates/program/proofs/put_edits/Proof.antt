@@ -5,7 +5,7 @@ use native.Mathlib.Omega.{arith}
 use borrow.Author.Needs.{needs}
 use lib.ListN.{length}
 use lib.Seq.{length-take-le}
-use Rattle.program.specs.Run.{Going, go-none, go-end, go-room, go-stop, go-less, go-more}
+use Rattle.program.specs.Run.{Going, go-none, go-end, go-room, go-stop, go-halt, go-less, go-more}
 use Rattle.program.proofs.put_edits.Statement.{statement}
 use Rattle.program.proofs.put_edits.Tie as tie
 
@@ -30,7 +30,8 @@ put-stop-requires : tie.Need-put-stop-requires Inv-loop μ-loop
 put-stop-requires c κs =
     let l = c .before .before .before .before .before .before .before .loop .inv in
     let a = c .before .before .before .before .before .before .before .before .before .before .before .before in
-    (c .before .before .before .before .edit-at .ensures .stops (search needs), go-room _ _ _ _ _ _ l (c .before .before .before .before .before .before .loop-test .taken) (a .pre .1) (a .pre .2) .1)
+    let t = c .before .before .before .before .before .before .loop-test .taken in
+    (go-halt _ _ _ _ _ _ l t (c .before .before .before .before .edit-at .ensures) (search needs), go-room _ _ _ _ _ _ l t (a .pre .1) (a .pre .2) .1)
 
 same-length : tie.Need-same-length Inv-loop μ-loop
 same-length c = search needs

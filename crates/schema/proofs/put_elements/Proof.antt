@@ -1,7 +1,7 @@
 -- `schema::put_elements` meets its contract. The loop's invariant is `Laying`; the measure is how many elements are left. Assumes nothing.
 use Prim.Native.Nat.{_-_}
 use borrow.Author.Needs.{needs}
-use Rattle.schema.specs.Whole.{Laying, lay-none, lay-room, lay-zeros, lay-same, lay-stop, lay-more, lay-kept, lay-end}
+use Rattle.schema.specs.Elements.{Laying, lay-none, lay-room, lay-zeros, lay-same, lay-stop, lay-more, lay-kept, lay-end}
 use Rattle.schema.proofs.put_elements.Statement.{statement}
 use Rattle.schema.proofs.put_elements.Tie as tie
 

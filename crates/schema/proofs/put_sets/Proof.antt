@@ -1,6 +1,6 @@
 -- `schema::put_sets` meets its contract. Assumes nothing.
 use borrow.Author.Needs.{needs}
-use Rattle.schema.specs.Attributes.{fifth-in, sixth-in}
+use Rattle.schema.specs.Element.{fifth-in, sixth-in}
 use Rattle.schema.proofs.put_sets.Statement.{statement}
 use Rattle.schema.proofs.put_sets.Tie as tie
 

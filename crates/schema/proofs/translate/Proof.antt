@@ -18,17 +18,17 @@ put-schema-requires c κs = search needs
 returns-2 : tie.Need-returns-2
 returns-2 c = let s = c .before .before .before .before .before .before .before in translate-fault (now (s .args .file)) (now (s .args .table)) (c .before .before .before .before .if1 .left) (c .before .before .put-schema .ensures) (omega arith)
 
-slice-aggregate-copy : tie.Need-slice-aggregate-copy
-slice-aggregate-copy c = search needs
+slice-aggregate-copy-words : tie.Need-slice-aggregate-copy-words
+slice-aggregate-copy-words c = search needs
 
-copy-requires : tie.Need-copy-requires
-copy-requires c κs = search needs
+copy-words-requires : tie.Need-copy-words-requires
+copy-words-requires c κs = search needs
 
 same-length : tie.Need-same-length
 same-length c = search needs
 
 returns-3 : tie.Need-returns-3
-returns-3 c = search translate-done
+returns-3 c = search (translate-done, needs)
 
 pub translate-spec : {M : Type 1} → statement M
 translate-spec =
@@ -38,7 +38,7 @@ translate-spec =
     slice-aggregate-put-schema
     put-schema-requires
     returns-2
-    slice-aggregate-copy
-    copy-requires
+    slice-aggregate-copy-words
+    copy-words-requires
     same-length
     returns-3)

@@ -1,5 +1,5 @@
 use borrow.Author.Needs.{needs}
-use Rattle.sets.specs.Laws.{shift-bit}
+use Rattle.paper_laws.specs.Words.{shift-bit}
 use Rattle.sets.proofs.has.Statement.{statement}
 use Rattle.sets.proofs.has.Tie as tie
 

@@ -1,5 +1,5 @@
 use borrow.Author.Needs.{needs}
-use Rattle.sets.specs.Laws.{shift-one}
+use Rattle.paper_laws.specs.Words.{shift-one}
 use Rattle.sets.proofs.one.Statement.{statement}
 use Rattle.sets.proofs.one.Tie as tie
 

@@ -3,7 +3,7 @@ use native.Mathlib.Nat.{lt-of-lt-of-le}
 use borrow.Author.Tests.{lt-ltb}
 use borrow.Author.Needs.{needs}
 use lib.Pow.{pow-mono}
-use Rattle.sets.specs.Laws.{shift-below}
+use Rattle.paper_laws.specs.Words.{shift-below}
 use Rattle.sets.proofs.uses_lowest.Statement.{statement}
 use Rattle.sets.proofs.uses_lowest.Tie as tie
 

@@ -16,11 +16,8 @@ abbrev μ-loop : tie.MeasureT-loop
 returns : tie.Need-returns Inv-loop μ-loop
 returns c = search scan-none
 
-shared-slice-read-read-tok : tie.Need-shared-slice-read-read-tok Inv-loop μ-loop
-shared-slice-read-read-tok c = search needs
-
-read-tok-requires : tie.Need-read-tok-requires Inv-loop μ-loop
-read-tok-requires c κs = search needs
+shared-slice-read-is-start : tie.Need-shared-slice-read-is-start Inv-loop μ-loop
+shared-slice-read-is-start c = search needs
 
 is-start-requires : tie.Need-is-start-requires Inv-loop μ-loop
 is-start-requires c κs = search needs
@@ -67,8 +64,7 @@ one-element-spec =
     Inv-loop
     μ-loop
     returns
-    shared-slice-read-read-tok
-    read-tok-requires
+    shared-slice-read-is-start
     is-start-requires
     returns-2
     loop-holds

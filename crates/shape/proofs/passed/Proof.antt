@@ -1,4 +1,4 @@
-use Rattle.shape.specs.ScanTurns.{passed-made, attribute-le, value-le, rise-le, times-le}
+use Rattle.shape.specs.Answers.{passed-made, attribute-le, value-le, rise-le, times-le}
 use Prim.Native.Nat.{_+_, _%_, _/_}
 use native.Mathlib.Omega.{arith}
 use borrow.Author.Needs.{needs}

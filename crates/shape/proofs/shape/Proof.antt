@@ -1,5 +1,5 @@
-use Rattle.shape_laws.specs.ShapeTurns.{shape-low, shape-high, shape-past}
-use Rattle.shape.specs.Answers.{shape-element}
+use Rattle.shape.specs.Answers.{shape-low, shape-high, shape-past, shape-element}
+use native.Mathlib.Omega.{arith}
 use borrow.Author.Needs.{needs}
 use Rattle.shape.proofs.shape.Statement.{statement}
 use Rattle.shape.proofs.shape.Tie as tie
@@ -8,7 +8,7 @@ returns : tie.Need-returns
 returns c = search shape-low
 
 returns-2 : tie.Need-returns-2
-returns-2 c = search shape-high
+returns-2 c = shape-high _ _ (omega arith)
 
 returns-3 : tie.Need-returns-3
 returns-3 c = search shape-past

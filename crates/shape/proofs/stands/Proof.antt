@@ -1,5 +1,5 @@
 use Prim.Native.Nat.{_%_}
-use Rattle.shape.specs.ScanTurns.{stands-closed, stands-deep, stands-number, stands-sort, stands-order, attribute-le, times-le}
+use Rattle.shape.specs.Answers.{stands-closed, stands-deep, stands-number, stands-sort, stands-order, attribute-le, times-le}
 use native.Mathlib.Omega.{arith}
 use borrow.Author.Needs.{needs}
 use Rattle.shape.proofs.stands.Statement.{statement}

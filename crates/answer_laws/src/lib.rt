@@ -1,0 +1,1 @@
+// Laws of answers, in specs/: which numbers each call can give. There is no code here.

@@ -1,0 +1,4 @@
+-- One attribute
+pub mod Attribute
+-- Several, and their sets
+pub mod Attributes

@@ -1,0 +1,2 @@
+-- The pass over the attributes of one element.
+pub mod Attributes

@@ -1,0 +1,80 @@
+-- `children::only_texts` meets its contract. The loop's invariant is `Reading`; the measure is how many tokens are left. Assumes nothing.
+use Prim.Native.Nat.{_-_}
+use mathlib.Core.Logic.{⊎-elim}
+use borrow.Author.Needs.{needs}
+use Rattle.children.specs.Texts.{Reading, reading-begin, reading-out, reading-end, reading-start, reading-other, reading-more, reading-text}
+use Rattle.children.proofs.only_texts.Statement.{statement}
+use Rattle.children.proofs.only_texts.Tie as tie
+
+abbrev Inv-loop : tie.InvT-loop
+Inv-loop doc used at count left₀ i₀ left i = Reading doc used at count i left
+
+abbrev μ-loop : tie.MeasureT-loop
+μ-loop doc used at count left₀ i₀ left i = used - i
+
+loop-holds : tie.Need-loop-holds Inv-loop μ-loop
+loop-holds c = search reading-begin
+
+mul-t : tie.Need-mul-t Inv-loop μ-loop
+mul-t c = search needs
+
+shared-slice-read-t : tie.Need-shared-slice-read-t Inv-loop μ-loop
+shared-slice-read-t c = search needs
+
+add-i : tie.Need-add-i Inv-loop μ-loop
+add-i c = search needs
+
+is-end-requires : tie.Need-is-end-requires Inv-loop μ-loop
+is-end-requires c κs = search needs
+
+is-start-requires : tie.Need-is-start-requires Inv-loop μ-loop
+is-start-requires c κs = search needs
+
+returns : tie.Need-returns Inv-loop μ-loop
+returns c = search reading-start
+
+is-text-requires : tie.Need-is-text-requires Inv-loop μ-loop
+is-text-requires c κs = search needs
+
+loop-less : tie.Need-loop-less Inv-loop μ-loop
+loop-less c = search needs
+
+loop-again : tie.Need-loop-again Inv-loop μ-loop
+loop-again c = search reading-other
+
+returns-2 : tie.Need-returns-2 Inv-loop μ-loop
+returns-2 c = search reading-more
+
+sub-left : tie.Need-sub-left Inv-loop μ-loop
+sub-left c = search needs
+
+loop-less-2 : tie.Need-loop-less-2 Inv-loop μ-loop
+loop-less-2 c = search needs
+
+loop-again-2 : tie.Need-loop-again-2 Inv-loop μ-loop
+loop-again-2 c = search reading-text
+
+returns-3 : tie.Need-returns-3 Inv-loop μ-loop
+returns-3 c = ⊎-elim (λ w. search reading-out) (λ w. search reading-end) (c .loop-test .came)
+
+pub only-texts-spec : {M : Type 1} → statement M
+only-texts-spec =
+    tie.close
+    (tie.spec
+    Inv-loop
+    μ-loop
+    loop-holds
+    mul-t
+    shared-slice-read-t
+    add-i
+    is-end-requires
+    is-start-requires
+    returns
+    is-text-requires
+    loop-less
+    loop-again
+    returns-2
+    sub-left
+    loop-less-2
+    loop-again-2
+    returns-3)

@@ -1,0 +1,64 @@
+-- The demands are not empty: the small shade and its five edits, by the contracts of the library. Assumes nothing.
+use mathlib.Core.Path.{_≡_, refl}
+use mathlib.Core.List.{List, [], _∷_}
+use Prim.Native.Nat.{ℕ}
+use contract.Lifetimes.{Lfts}
+use denote.Ref.{RefT}
+use Rattle.paper.specs.Table.{tableOf, translate}
+use Rattle.paper.specs.Edits.{Request, Outcome, edit}
+use Rattle.paper.specs.SmallShade.{buffer}
+use Rattle.contracts.specs.{Allows}
+use Rattle.promises.specs.Statements.{Translated, Runs, EachRight}
+use Rattle.promises.specs.Example as example
+use Rattle.shrikemuff.proofs.Contracts.{shrike-translate, shrike-edit}
+use Rattle.demands.specs.Theorems.{shrikes, demand-3}
+
+-- ---- the contracts allow the paper's outcomes
+
+-- a list that is lent: where it lies does not matter
+abbrev lent : List ℕ → RefT (List ℕ)
+lent l = record { ptr = (0, 0); name = 0; now = l }
+
+translates : (file table : List ℕ) → Allows shrike-translate (file, table) (translate file table)
+translates file table = let o : ℕ × List ℕ = translate file table in record {
+  κs = ([], ([], tt));
+  given = (lent file, (lent table, tt));
+  result = o .0;
+  after = (lent file, (lent (o .1), tt));
+  its-input = refl;
+  its-outcome = refl;
+  told = refl;
+}
+
+performs : (table buffer : List ℕ) (used : ℕ) (q : Request) → Allows shrike-edit (table, buffer, used, q) (edit table buffer used q)
+performs table buffer used q = let o : Outcome = edit table buffer used q in record {
+  κs = ([], ([], ([], tt)));
+  given = (lent table, (lent buffer, (used, (q .operation, (q .place, (lent (q .piece), tt))))));
+  result = record { number = o .number; place = o .place; used = o .used; change = o .change };
+  after = (lent table, (lent (o .buffer), (used, (q .operation, (q .place, (lent (q .piece), tt))))));
+  its-input = refl;
+  its-outcome = refl;
+  told = refl;
+}
+
+-- ---- the premises
+
+translated : Translated shrikes example.schema (tableOf example.schema)
+translated = let t = example.translated in record {
+  file = t .file;
+  lent = t .lent;
+  left = t .left;
+  bytes = t .bytes;
+  reads = t .reads;
+  translates = rw (t .translates) (translates (t .file) (t .lent));
+}
+
+runs : (table buffer : List ℕ) (used : ℕ) (l : List Request) → Runs shrikes table buffer used (example.made table buffer used l)
+runs table buffer used [] = tt
+runs table buffer used (q ∷ l) =
+    let o : Outcome = edit table buffer used q in (performs table buffer used q, runs table (o .buffer) (o .used) l)
+
+-- ---- what is promised
+
+pub each-right : EachRight example.schema buffer 15 example.run
+each-right = demand-3 example.schema (tableOf example.schema) translated buffer 15 example.valid example.run (runs (tableOf example.schema) buffer 15 example.requests)

@@ -1,0 +1,4 @@
+-- The demands of the library's calls, and the edit program's output.
+pub mod Theorems
+pub mod Output
+pub mod Example

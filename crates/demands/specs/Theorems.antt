@@ -1,0 +1,129 @@
+-- The demands, of any outcomes that the contracts of the library's five calls allow: those that a host links and runs. A line for each
+-- promise. Assumes nothing.
+use Rattle.contracts.specs.{TakesAll, Allows}
+use Rattle.promises.specs.Calls.{Calls, Faithful}
+use Rattle.promises.specs.Statements as promised
+use Rattle.promises.specs.Theorems as proved
+use Rattle.shrikemuff.proofs.Contracts.{shrike-read, shrike-write, shrike-translate, shrike-check, shrike-edit}
+use Rattle.shrikemuff.proofs.Contracts as contracts
+
+-- the library's five calls, each by its own contract
+abbrev pub shrikes : Calls
+shrikes = record {
+  Reads = λ file buffer. Allows shrike-read (file, buffer);
+  Writes = λ tokens buffer. Allows shrike-write (tokens, buffer);
+  Translates = λ file table. Allows shrike-translate (file, table);
+  Checks = λ table buffer used. Allows shrike-check (table, buffer, used);
+  Performs = λ table buffer used q. Allows shrike-edit (table, buffer, used, q);
+}
+
+faithful : Faithful shrikes
+faithful = record {
+  reads = λ file buffer. contracts.reads (file, buffer);
+  writes = λ tokens buffer. contracts.writes (tokens, buffer);
+  translates = λ file table. contracts.translates (file, table);
+  checks = λ table buffer used. contracts.checks (table, buffer, used);
+  performs = λ table buffer used q. contracts.performs (table, buffer, used, q);
+}
+
+-- ---- every call
+
+pub read-determinate : promised.ReadDeterminate shrikes
+read-determinate = proved.read-determinate shrikes faithful
+
+pub write-determinate : promised.WriteDeterminate shrikes
+write-determinate = proved.write-determinate shrikes faithful
+
+pub translate-determinate : promised.TranslateDeterminate shrikes
+translate-determinate = proved.translate-determinate shrikes faithful
+
+pub check-determinate : promised.CheckDeterminate shrikes
+check-determinate = proved.check-determinate shrikes faithful
+
+pub edit-determinate : promised.EditDeterminate shrikes
+edit-determinate = proved.edit-determinate shrikes faithful
+
+-- ---- demand 1
+
+-- "Every call takes every input"
+pub take-all : TakesAll shrike-read × TakesAll shrike-write × TakesAll shrike-translate × TakesAll shrike-check × TakesAll shrike-edit
+take-all = (contracts.read-takes-all, contracts.write-takes-all, contracts.translate-takes-all, contracts.check-takes-all, contracts.edit-takes-all)
+
+pub read-answers : promised.ReadAnswers shrikes
+read-answers = proved.read-answers shrikes faithful
+
+pub write-answers : promised.WriteAnswers shrikes
+write-answers = proved.write-answers shrikes faithful
+
+pub translate-answers : promised.TranslateAnswers shrikes
+translate-answers = proved.translate-answers shrikes faithful
+
+pub check-answers : promised.CheckAnswers shrikes
+check-answers = proved.check-answers shrikes faithful
+
+pub check-never-7 : promised.CheckNever7 shrikes
+check-never-7 = proved.check-never-7 shrikes faithful
+
+pub edit-answers : promised.EditAnswers shrikes
+edit-answers = proved.edit-answers shrikes faithful
+
+pub read-keeps : promised.ReadKeeps shrikes
+read-keeps = proved.read-keeps shrikes faithful
+
+pub write-keeps : promised.WriteKeeps shrikes
+write-keeps = proved.write-keeps shrikes faithful
+
+pub translate-keeps : promised.TranslateKeeps shrikes
+translate-keeps = proved.translate-keeps shrikes faithful
+
+pub edit-keeps : promised.EditKeeps shrikes
+edit-keeps = proved.edit-keeps shrikes faithful
+
+-- ---- demand 2
+
+pub read-then-write : promised.ReadThenWrite shrikes
+read-then-write = proved.read-then-write shrikes faithful
+
+pub write-then-read : promised.WriteThenRead shrikes
+write-then-read = proved.write-then-read shrikes faithful
+
+pub read-then-write-done : promised.ReadThenWriteDone shrikes
+read-then-write-done = proved.read-then-write-done shrikes faithful
+
+pub write-then-read-done : promised.WriteThenReadDone shrikes
+write-then-read-done = proved.write-then-read-done shrikes faithful
+
+pub check-by-expressions : promised.CheckByExpressions shrikes
+check-by-expressions = proved.check-by-expressions shrikes faithful
+
+pub check-valid : promised.CheckValid shrikes
+check-valid = proved.check-valid shrikes faithful
+
+pub edit-leaves : promised.EditLeaves shrikes
+edit-leaves = proved.edit-leaves shrikes faithful
+
+pub edit-on-tree : promised.EditIsTreeEdit shrikes
+edit-on-tree = proved.edit-on-tree shrikes faithful
+
+-- ---- demand 3
+
+pub translate-length : promised.TranslateLength shrikes
+translate-length = proved.translate-length shrikes faithful
+
+pub translate-done : promised.TranslateDone shrikes
+translate-done = proved.translate-done shrikes faithful
+
+pub translate-ambiguous : promised.TranslateAmbiguous shrikes
+translate-ambiguous = proved.translate-ambiguous shrikes faithful
+
+pub translate-else : promised.TranslateElse shrikes
+translate-else = proved.translate-else shrikes faithful
+
+pub table-proper : promised.TableProper shrikes
+table-proper = proved.table-proper shrikes faithful
+
+pub table-reads : promised.TableReads shrikes
+table-reads = proved.table-reads shrikes faithful
+
+pub demand-3 : promised.Demand3 shrikes
+demand-3 = proved.demand-3 shrikes faithful

@@ -1,0 +1,35 @@
+-- `gather::kinds_of` meets its contract. Assumes nothing.
+use Rattle.table.specs.Block.{table-has}
+use Rattle.gather.specs.Kinds.{kinds-none, kinds-some}
+use borrow.Author.Needs.{needs}
+use Rattle.gather.proofs.kinds_of.Statement.{statement}
+use Rattle.gather.proofs.kinds_of.Tie as tie
+
+shared-slice-read-if1 : tie.Need-shared-slice-read-if1
+shared-slice-read-if1 c = search (needs, table-has)
+
+returns : tie.Need-returns
+returns c = search kinds-none
+
+cell-requires : tie.Need-cell-requires
+cell-requires c κs = search needs
+
+cell-requires-2 : tie.Need-cell-requires-2
+cell-requires-2 c κs = search needs
+
+cell-requires-3 : tie.Need-cell-requires-3
+cell-requires-3 c κs = search needs
+
+returns-2 : tie.Need-returns-2
+returns-2 c = search kinds-some
+
+pub kinds-of-spec : {M : Type 1} → statement M
+kinds-of-spec =
+    tie.close
+    (tie.spec
+    shared-slice-read-if1
+    returns
+    cell-requires
+    cell-requires-2
+    cell-requires-3
+    returns-2)

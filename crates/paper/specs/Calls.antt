@@ -1,0 +1,29 @@
+-- The five calls, each by the outcome that it has for what it is given: an outcome is the answer and every place of lent memory
+-- after the call. The contracts of the calls are written with these names. Assumes nothing.
+use mathlib.Core.Path.{_≡_}
+use mathlib.Core.List.{List}
+use Prim.Native.Nat.{ℕ}
+use Rattle.paper.specs.Files.{Counted, read, write}
+use Rattle.paper.specs.Table.{translate}
+use Rattle.paper.specs.Judgement.{Answer, check}
+use Rattle.paper.specs.Edits.{Request, Outcome, edit}
+
+-- the reader: number, count, and the token buffer
+abbrev pub Reads : (file buffer : List ℕ) → Counted → Type 0
+Reads file buffer o = o ≡ read file buffer
+
+-- the writer: number, count, and the byte buffer
+abbrev pub Writes : (tokens buffer : List ℕ) → Counted → Type 0
+Writes tokens buffer o = o ≡ write tokens buffer
+
+-- the translator: number, and the table
+abbrev pub Translates : (file table : List ℕ) → ℕ × List ℕ → Type 0
+Translates file table o = o ≡ translate file table
+
+-- the check: number and place; it is lent nothing to write to
+abbrev pub Checks : (table buffer : List ℕ) → (used : ℕ) → Answer → Type 0
+Checks table buffer used o = o ≡ check table buffer used
+
+-- the edit: number, place, used length, change in length, and the buffer
+abbrev pub Performs : (table buffer : List ℕ) → (used : ℕ) → Request → Outcome → Type 0
+Performs table buffer used q o = o ≡ edit table buffer used q

@@ -1,0 +1,75 @@
+-- `proper` meets its contract. Assumes nothing.
+use native.Mathlib.Omega.{arith}
+use borrow.Author.Needs.{needs}
+use Rattle.proper.specs.Whole.{wrong-length, no-elements, many-elements, no-root, not-unused, table-test}
+use Rattle.proper.proofs.proper.Statement.{statement}
+use Rattle.proper.proofs.proper.Tie as tie
+
+returns : tie.Need-returns
+returns c = search wrong-length
+
+shared-slice-read-elements : tie.Need-shared-slice-read-elements
+shared-slice-read-elements c = search needs
+
+returns-2 : tie.Need-returns-2
+returns-2 c = no-elements _ (omega arith)
+
+returns-3 : tie.Need-returns-3
+returns-3 c = many-elements _ (omega arith)
+
+shared-slice-read-if4 : tie.Need-shared-slice-read-if4
+shared-slice-read-if4 c = search needs
+
+returns-4 : tie.Need-returns-4
+returns-4 c = no-root _ (omega arith)
+
+mul-end : tie.Need-mul-end
+mul-end c = search needs
+
+add-end : tie.Need-add-end
+add-end c = search needs
+
+mul-all-zero : tie.Need-mul-all-zero
+mul-all-zero c = search needs
+
+sub-all-zero : tie.Need-sub-all-zero
+sub-all-zero c = search needs
+
+part-all-zero-start : tie.Need-part-all-zero-start
+part-all-zero-start c = search needs
+
+part-all-zero-end : tie.Need-part-all-zero-end
+part-all-zero-end c = search needs
+
+all-zero-requires : tie.Need-all-zero-requires
+all-zero-requires c κs = search needs
+
+returns-5 : tie.Need-returns-5
+returns-5 c = search not-unused
+
+proper-blocks-requires : tie.Need-proper-blocks-requires
+proper-blocks-requires c κs = search needs
+
+returns-6 : tie.Need-returns-6
+returns-6 c = search table-test
+
+pub proper-spec : {M : Type 1} → statement M
+proper-spec =
+    tie.close
+    (tie.spec
+    returns
+    shared-slice-read-elements
+    returns-2
+    returns-3
+    shared-slice-read-if4
+    returns-4
+    mul-end
+    add-end
+    mul-all-zero
+    sub-all-zero
+    part-all-zero-start
+    part-all-zero-end
+    all-zero-requires
+    returns-5
+    proper-blocks-requires
+    returns-6)

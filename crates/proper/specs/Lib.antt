@@ -1,0 +1,7 @@
+-- The test of a table, part by part.
+pub mod Rest
+pub mod Union
+pub mod Attributes
+pub mod Model
+pub mod Block
+pub mod Whole

@@ -1,0 +1,116 @@
+-- The contracts of the five calls, as they stand. Each asks nothing of a caller, and allows no outcome but the paper's. Assumes nothing.
+use mathlib.Core.List.{List}
+use Prim.Native.Nat.{ℕ}
+use denote.Ref.{now}
+use Rattle.paper.specs.Files.{Counted}
+use Rattle.paper.specs.Judgement.{Answer}
+use Rattle.paper.specs.Edits.{Request, Outcome}
+use Rattle.paper.specs.Calls.{Reads, Writes, Translates, Checks, Performs}
+use Rattle.contracts.specs.{Call, TakesAll, Allows, allowed}
+use Rattle.shrikemuff.specs.Outcomes.{counted, edited}
+use Rattle.shrikemuff.proofs.shrike_read.Kinds as read-kinds
+use Rattle.shrikemuff.proofs.shrike_read.Reads as read
+use Rattle.shrikemuff.proofs.shrike_write.Kinds as write-kinds
+use Rattle.shrikemuff.proofs.shrike_write.Reads as write
+use Rattle.shrikemuff.proofs.shrike_translate.Kinds as translate-kinds
+use Rattle.shrikemuff.proofs.shrike_translate.Reads as translate
+use Rattle.shrikemuff.proofs.shrike_check.Kinds as check-kinds
+use Rattle.shrikemuff.proofs.shrike_check.Reads as check
+use Rattle.shrikemuff.proofs.shrike_edit.Kinds as edit-kinds
+use Rattle.shrikemuff.proofs.shrike_edit.Reads as edit
+
+-- ---- the reader: file and buffer
+
+abbrev pub shrike-read : Call (List ℕ × List ℕ) Counted
+shrike-read = record {
+  lifetimes = 2;
+  ps = read-kinds.ps;
+  r = read-kinds.r;
+  Asked = read.Asked;
+  Learnt = read.Learnt;
+  input = λ κs given. (now (given .0), now (given .1 .0));
+  outcome = λ κs result after. counted result (now (after .1 .0));
+}
+
+pub read-takes-all : TakesAll shrike-read
+read-takes-all κs given = tt
+
+pub reads : (i : List ℕ × List ℕ) (o : Counted) → Allows shrike-read i o → Reads (i .0) (i .1) o
+reads = allowed shrike-read (λ i o. Reads (i .0) (i .1) o) (λ κs given result after told. told)
+
+-- ---- the writer: tokens and buffer
+
+abbrev pub shrike-write : Call (List ℕ × List ℕ) Counted
+shrike-write = record {
+  lifetimes = 2;
+  ps = write-kinds.ps;
+  r = write-kinds.r;
+  Asked = write.Asked;
+  Learnt = write.Learnt;
+  input = λ κs given. (now (given .0), now (given .1 .0));
+  outcome = λ κs result after. counted result (now (after .1 .0));
+}
+
+pub write-takes-all : TakesAll shrike-write
+write-takes-all κs given = tt
+
+pub writes : (i : List ℕ × List ℕ) (o : Counted) → Allows shrike-write i o → Writes (i .0) (i .1) o
+writes = allowed shrike-write (λ i o. Writes (i .0) (i .1) o) (λ κs given result after told. told)
+
+-- ---- the translator: file and table
+
+abbrev pub shrike-translate : Call (List ℕ × List ℕ) (ℕ × List ℕ)
+shrike-translate = record {
+  lifetimes = 2;
+  ps = translate-kinds.ps;
+  r = translate-kinds.r;
+  Asked = translate.Asked;
+  Learnt = translate.Learnt;
+  input = λ κs given. (now (given .0), now (given .1 .0));
+  outcome = λ κs result after. (result, now (after .1 .0));
+}
+
+pub translate-takes-all : TakesAll shrike-translate
+translate-takes-all κs given = tt
+
+pub translates : (i : List ℕ × List ℕ) (o : ℕ × List ℕ) → Allows shrike-translate i o → Translates (i .0) (i .1) o
+translates = allowed shrike-translate (λ i o. Translates (i .0) (i .1) o) (λ κs given result after told. told)
+
+-- ---- the check: table, buffer and used length
+
+abbrev pub shrike-check : Call (List ℕ × List ℕ × ℕ) Answer
+shrike-check = record {
+  lifetimes = 2;
+  ps = check-kinds.ps;
+  r = check-kinds.r;
+  Asked = check.Asked;
+  Learnt = check.Learnt;
+  input = λ κs given. (now (given .0), now (given .1 .0), given .1 .1 .0);
+  outcome = λ κs result after. (result .number, result .place);
+}
+
+pub check-takes-all : TakesAll shrike-check
+check-takes-all κs given = tt
+
+pub checks : (i : List ℕ × List ℕ × ℕ) (o : Answer) → Allows shrike-check i o → Checks (i .0) (i .1) (i .2) o
+checks = allowed shrike-check (λ i o. Checks (i .0) (i .1) (i .2) o) (λ κs given result after told. told)
+
+-- ---- the edit: table, buffer, used length and request
+
+abbrev pub shrike-edit : Call (List ℕ × List ℕ × ℕ × Request) Outcome
+shrike-edit = record {
+  lifetimes = 3;
+  ps = edit-kinds.ps;
+  r = edit-kinds.r;
+  Asked = edit.Asked;
+  Learnt = edit.Learnt;
+  input = λ κs given.
+      (now (given .0), now (given .1 .0), given .1 .1 .0, record { operation = given .1 .1 .1 .0; place = given .1 .1 .1 .1 .0; piece = now (given .1 .1 .1 .1 .1 .0) });
+  outcome = λ κs result after. edited result (now (after .1 .0));
+}
+
+pub edit-takes-all : TakesAll shrike-edit
+edit-takes-all κs given = tt
+
+pub performs : (i : List ℕ × List ℕ × ℕ × Request) (o : Outcome) → Allows shrike-edit i o → Performs (i .0) (i .1) (i .2) (i .3) o
+performs = allowed shrike-edit (λ i o. Performs (i .0) (i .1) (i .2) (i .3) o) (λ κs given result after told. told)

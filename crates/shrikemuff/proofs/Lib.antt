@@ -1,0 +1,2 @@
+-- Contracts says what the five contracts allow.
+pub mod Contracts
