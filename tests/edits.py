@@ -2,12 +2,14 @@
 
 `rt check run_edits` makes the program. Fails at the first difference.
 """
+import argparse
 import os
 import subprocess
 import tempfile
 
 HERE = os.path.dirname(os.path.abspath(__file__))
 SAMPLE = os.path.join(HERE, '..', 'samples', 'small-shade')
+PROGRAM = [os.path.join(HERE, '..', 'tools', 'program'), 'run_edits']
 
 
 def sample(name):
@@ -31,6 +33,8 @@ CHECK = '0 0 0 15\n'
 REMOVED = numbers(2, 10, 0)  # done: 11 tokens are left
 ROW = '1 0 0 11\n'
 
+FOLDER = object()
+
 # what it shows, the three files (None: there is none), what is printed
 RUNS = [
     ("the paper's sample", SCHEMA, DOC, EDITS, sample('printed.txt').decode()),
@@ -39,6 +43,9 @@ RUNS = [
     ('no document', SCHEMA, None, EDITS, 'stop 5\n'),
     ('no edits', SCHEMA, DOC, None, 'stop 5\n'),
     ('no edits, before a broken schema', b'', DOC, None, 'stop 5\n'),
+    ('a folder as schema', FOLDER, DOC, EDITS, 'stop 5\n'),
+    ('a folder as document', SCHEMA, FOLDER, EDITS, 'stop 5\n'),
+    ('a folder as edits', SCHEMA, DOC, FOLDER, 'stop 5\n'),
     ('a schema of 65,537 bytes', bytes(65537), DOC, EDITS, 'stop 5\n'),
     ('a document of 65,537 bytes', SCHEMA, bytes(65537), EDITS, 'stop 5\n'),
     ('edits of 65,537 bytes', SCHEMA, DOC, bytes(65537), 'stop 5\n'),
@@ -80,18 +87,47 @@ RUNS = [
 ]
 
 
+def put(folder, files):
+    """Puts the three files into a folder."""
+    for name, content in zip(('schema.dat', 'doc.dat', 'edits.dat'), files):
+        path = os.path.join(folder, name)
+        if content is FOLDER:
+            os.mkdir(path)
+        elif content is not None:
+            with open(path, 'wb') as f:
+                f.write(content)
+
+
+def hold(shows, got, expected):
+    if got != expected:
+        raise SystemExit(f'tests/edits.py: {shows}\nexpected\n{str(expected)[:500]}\nwas\n{str(got)[:500]}')
+
+
+def printed(files):
+    """Status and output of the program on three files."""
+    with tempfile.TemporaryDirectory() as folder:
+        put(folder, files)
+        ran = subprocess.run(PROGRAM, cwd=folder, stdout=subprocess.PIPE)
+        return ran.returncode, ran.stdout.decode()
+
+
+def lost(files):
+    """Status and whether something is said, where output cannot be written."""
+    with tempfile.TemporaryDirectory() as folder, open('/dev/full', 'wb') as full:
+        put(folder, files)
+        ran = subprocess.run(PROGRAM, cwd=folder, stdout=full, stderr=subprocess.PIPE)
+        return ran.returncode, ran.stderr.startswith(b'run_edits: standard output: ')
+
+
 def main():
-    for shows, schema, doc, edits, printed in RUNS:
-        with tempfile.TemporaryDirectory() as folder:
-            for name, content in (('schema.dat', schema), ('doc.dat', doc), ('edits.dat', edits)):
-                if content is not None:
-                    with open(os.path.join(folder, name), 'wb') as f:
-                        f.write(content)
-            ran = subprocess.run([os.path.join(HERE, '..', 'tools', 'program'), 'run_edits'], cwd=folder, stdout=subprocess.PIPE)
-            got = ran.stdout.decode()
-            if ran.returncode != 0 or got != printed:
-                raise SystemExit(f'tests/edits.py: {shows}: status {ran.returncode}\nexpected\n{printed[:500]}printed\n{got[:500]}')
-    print(f'the edit program prints what it must, {len(RUNS)} times')
+    argparse.ArgumentParser(description=__doc__, formatter_class=argparse.RawDescriptionHelpFormatter).parse_args()
+    for shows, schema, doc, edits, expected in RUNS:
+        hold(shows, printed((schema, doc, edits)), (0, expected))
+    hold('output that cannot be written', lost((SCHEMA, DOC, EDITS)), (1, True))
+    hold('a stop that cannot be written', lost((None, DOC, EDITS)), (1, True))
+    usage = subprocess.run(PROGRAM + ['--help'], stdout=subprocess.PIPE)
+    hold('--help', (usage.returncode, usage.stdout.startswith(b'usage: run_edits\n')), (0, True))
+    print(f'the edit program prints what it must, {len(RUNS) + 3} times')
 
 
 if __name__ == '__main__':

@@ -1,16 +1,16 @@
 #!/usr/bin/env python3
 """Compares the definitions of the crate `paper` with reference.py.
 
-    python3 compare.py [SEED [COUNT]] [--keep] [--paper FOLDER]
+Makes COUNT random cases beside some fixed ones at the limits, has reference.py
+give the answers, writes them as equations over the definitions, and has
+`rt check` compute these. With --share N one in N of the fixed cases is taken,
+others with each seed: N seeds in a row take them all.
 
-Makes COUNT random cases (default: seed 1, 600 cases) beside some fixed ones
-at the limits, has reference.py give the answers, writes them as equations
-over the definitions, and has `rt check` compute these. Exit status: 0 all
-equal; 1 some differ, or an answer that can occur did not; 2 the equations
-could not be checked. --keep keeps the scratch repository; --paper takes the
-definitions from another folder than crates/paper.
+Exit status: 0 all equal; 1 some differ, or an answer that can occur did not;
+2 the equations could not be checked.
 """
 
+import argparse
 import copy
 import os
 import random
@@ -951,8 +951,10 @@ PIECES = [
 # ------------------------------------------------------------ the whole set
 
 class Cases:
-    def __init__(self, seed):
+    def __init__(self, seed, share):
         self.make = Maker(seed)
+        self.share = share
+        self.turn = seed
         self.r = self.make.r
         self.contexts = []           # with table, and with schema or not
         self.alone = []              # cases with no context
@@ -966,6 +968,12 @@ class Cases:
         for call, number in case.rows:
             row = self.counts.setdefault(call, {})
             row[number] = row.get(number, 0) + 1
+
+    def in_turn(self, case, context=None):
+        """Takes one in `share` of the fixed cases."""
+        self.turn += 1
+        if self.turn % self.share == 0:
+            self.add(case, context)
 
     def missing(self):
         return [(call, number) for call, numbers in REQUIRED.items() for number in sorted(numbers, key=str)
@@ -1082,12 +1090,21 @@ class Cases:
         self.add(translate_case(file, [7] * TABLE), context)
         return context
 
-    def new_own(self, wish):
+    def new_own(self, wish, lively=False):
+        """A table that no schema file gives: proper or not; with valid
+        documents and IDs if it is to be lively."""
         table = None
-        while table is None:
+        while table is None or lively and not self.lively(Context(None, table)):
             table = self.make.own_table(self.r.choice(self.translated()), wish)
         self.contexts.append(Context(None, table))
         self.add(proper_case(table))
+
+    def lively(self, context):
+        ids = any(context.table[2 + BLOCK * e + 3] for e in range(context.table[0]))
+        return ids and any(self.valid(context, ref.lay(self.make.document(context))) for _ in range(10))
+
+    def valid(self, context, tokens):
+        return len(tokens) <= 300 and ref.check_by_schema(context.rules, tokens, len(tokens))[0] == 0
 
     def tree(self, context, wanted, sound):
         """A document, sound or with some faults."""
@@ -1145,7 +1162,7 @@ class Cases:
 
     def large(self):
         """The limits: tokens, depth, files, occurrence 63, 48 elements."""
-        add = self.add
+        add = self.in_turn
         for count in (8192, 8193):
             add(read_case([5] * count, [4] * 8200))
             add(write_case([5] * count, [4] * 8200))
@@ -1269,8 +1286,8 @@ class Cases:
             self.new_context()
         self.new_context(count=30, names=24)
         self.new_context(count=40, names=36)
-        for _ in range(max(4, count // 60)):
-            self.new_own(True)
+        for k in range(max(6, count // 60)):
+            self.new_own(True, k % 2 == 0)
         for _ in range(3):
             self.new_own(False)
         operations = {name: op for op, name in OPERATIONS.items()}
@@ -1460,20 +1477,17 @@ def locate(scratch, failed):
 
 
 def main():
-    words = sys.argv[1:]
-    keep = '--keep' in words
-    paper = PAPER
-    if keep:
-        words.remove('--keep')
-    if '--paper' in words:
-        at = words.index('--paper')
-        paper = words[at + 1]
-        del words[at:at + 2]
-    seed = int(words[0]) if words else 1
-    count = int(words[1]) if len(words) > 1 else 600
+    words = argparse.ArgumentParser(description=__doc__, formatter_class=argparse.RawDescriptionHelpFormatter)
+    words.add_argument('seed', metavar='SEED', type=int, nargs='?', default=1, help='default: 1')
+    words.add_argument('count', metavar='COUNT', type=int, nargs='?', default=600, help='random cases; default: 600')
+    words.add_argument('--share', metavar='N', type=int, default=1, help='one in N of the fixed cases; default: all')
+    words.add_argument('--keep', action='store_true', help='keep the scratch repository')
+    words.add_argument('--paper', metavar='FOLDER', default=PAPER, help='definitions of another folder than crates/paper')
+    words = words.parse_args()
+    seed, keep = words.seed, words.keep
     began = time.time()
-    cases = Cases(seed)
-    cases.build(count)
+    cases = Cases(seed, words.share)
+    cases.build(words.count)
     made = time.time()
     all_equations = equations(cases)
     print('seed %d: %d random cases and %d fixed ones, %d comparisons, made in %.0f s' %
@@ -1485,7 +1499,7 @@ def main():
         label = 'g%d' % len(parts)
         parts.append((label, [part.holds for _, part in equation.parts]))
         names[equation.module, label] = equation
-    scratch = Scratch(paper)
+    scratch = Scratch(words.paper)
     sys.stdout.flush()
     try:
         failed = scratch.check(modules)

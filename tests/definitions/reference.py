@@ -4,9 +4,10 @@
 Everything is done on trees: a content model is an expression tree, a document
 is a tree of elements, an edit changes the tree, and the tree is judged.
 
-    python3 reference.py        runs the self test
+Run as a program, it does its self test.
 """
 
+import argparse
 import sys
 
 sys.setrecursionlimit(20000)
@@ -1013,4 +1014,5 @@ def walk(tree):
 
 
 if __name__ == '__main__':
+    argparse.ArgumentParser(description=__doc__, formatter_class=argparse.RawDescriptionHelpFormatter).parse_args()
     self_test()
