@@ -1232,6 +1232,7 @@ class Cases:
                                             (3, 0, [1] * 65 + [2] * 65), (3, depth - 1, [1, 1, 2, 2]),
                                             (1, 1, [1] * 65 + [2] * 65), (1, 0, [1] * 65 + [2] * 65)):
                 add(edit_case(nest, tokens + [7] * 10, len(tokens), operation, place, piece), nest)
+        self.told_apart(context, nest)
 
         # occurrence 63: sixty-four names of two elements in turn
         symbols = [0] * 63 + [6, 7] * 32
@@ -1275,6 +1276,16 @@ class Cases:
         for symbols in ([2] * 254 + [5], [3] * 255 + [5], [0] * 64 + [6] * 65, [0, 2, 6, 6], [1, 0, 6, 7, 0, 6, 8],
                         [3, 0, 3, 6, 3, 7], [4] * 200 + [0, 6, 7], [1] * 8 + [6] * 9):
             add(translate_case(ref.file_of(ref.SHADE[:2] + [2, len(symbols)] + symbols + ref.SHADE[9:]), [0] * TABLE))
+
+    def told_apart(self, shade, nest):
+        """With every seed: a case for each slip that no law and no P case notices (tests/wrong-definitions --compare)."""
+        panel = [9, 12, 173, 2]
+        faulty = [1, 4, 61, 9, 12, 165, 2, 25, 2, 2]        # the fault is directly behind the piece
+        self.add(check_case(nest, [1] * 65 + [2] * 65, 130), nest)
+        self.add(edit_case(shade, ref.SHADE_DOC, 15, 1, 0, panel), shade)       # not a place, and no room
+        self.add(edit_case(shade, ref.SHADE_DOC + [7] * 6, 15, 2, 10, []), shade)
+        self.add(edit_case(shade, faulty + [7] * 6, 10, 1, 7, panel), shade)
+        self.add(translate_case([1, 0, 0, 2, 1, 1, 0, 2, 1], [3] * TABLE))      # a second ID, and then no status
 
     # -- all
 
