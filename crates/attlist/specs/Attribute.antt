@@ -74,4 +74,3 @@ attribute-low low had s {y} {r} e =
   where
     made : {x : Attribute} {w : List ℕ} → ok x w ≡ ok y r → x .number ≡ y .number
     made {x} e = let d : x ≡ y = cc in ap (λ (z : Attribute). z .number) d
-

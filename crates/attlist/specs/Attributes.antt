@@ -152,4 +152,3 @@ module _ (n : ℕ) (file : List ℕ) (at : ℕ) where
               (prefixed-more (t .l) (attributeOf a) (attributesFrom (n - (i + 1)) (suc (a .attribute)) (s .had || eqb (a .kind) 1) (drop (a .next) file)));
           sets = sets-more a (t .sets) refl;
         })
-

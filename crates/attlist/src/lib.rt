@@ -18,7 +18,7 @@ ghost use Rattle.paper.specs.Basics.{mostAttributes};
 ghost use Rattle.attlist.specs.Attribute.{noAttribute, AttributeAt};
 ghost use Rattle.attlist.specs.Attributes.{noSets, withAttribute, AttributesAt};
 
-// "a number from 0 to 63"
+// The largest number of an attribute.
 const HIGHEST_ATTRIBUTE: u32 = paper::MOST_ATTRIBUTES as u32 - 1;
 
 // An attribute that was read: 0, what it is and the place after it; or the refusal's number.
@@ -138,4 +138,3 @@ pub fn attributes_at(file: &[u8], at: usize, count: u32) -> Attributes
     }
     s
 }
-

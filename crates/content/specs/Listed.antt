@@ -8,11 +8,12 @@ use native.Mathlib.Numerals.{add-one}
 use native.Mathlib.Omega.{arith}
 use borrow.Author.Tests.{leb-true, le-leb, lt-leb, lt-ltb}
 use lib.Dec.{leb, ltb}
-use lib.Seq.{sets, sets-eq, drop-cons}
+use lib.Seq.{sets, sets-eq}
 use lib.ListN.{length, drop, getD, set, replicate, length-set, length-replicate, drop-of-length-le}
 use Rattle.paper.specs.Basics.{mostNames, between, all, consIf, pad}
 use Rattle.paper.specs.Expressions.{Expr, name, seq, alt, opt, star, plus, names, count}
 use Rattle.paper.specs.Schema.{symbolsOf, exprOf}
+use Rattle.basic_laws.specs.Lists.{drop-next}
 use Rattle.content_laws.specs.Symbols.{exprOf-iff}
 use Rattle.content_laws.specs.Names.{length-names}
 
@@ -56,7 +57,7 @@ zeros-left zero n = let e : n ≡ n - 0 = omega arith in ap (λ m. replicate m 0
 zeros-left (suc k) zero = let e : 0 ≡ 0 - suc k = omega arith in ap (λ m. replicate m 0) e
 zeros-left (suc k) (suc n) = let e : n - k ≡ suc n - suc k = omega arith in zeros-left k n ∙ ap (λ m. replicate m 0) e
 
-pub over-zeros : (n : ℕ) (l : List ℕ) → length l ≤ n → sets (replicate n 0) 0 l ≡ pad n l
+over-zeros : (n : ℕ) (l : List ℕ) → length l ≤ n → sets (replicate n 0) 0 l ≡ pad n l
 over-zeros n l h =
     let e : 0 + length l ≡ length l = omega arith in
     sets-eq l (replicate n 0) 0 (omega (arith, length-replicate n zero))
@@ -93,11 +94,8 @@ module _ {s old names : List ℕ} {n i : ℕ} (l : Listing s old names n i) wher
   all-listed h = rw (drop-of-length-le s h) at (l .rest)
 
   module _ (h : i < length s) where
-    next : drop i s ≡ getD s i 0 ∷ drop (i + 1) s
-    next = rw (add-one, drop-cons s i 0)
-
     name-next : 5 ≤ getD s i 0 → namesIn (drop i s) ≡ (getD s i 0 - 5) ∷ namesIn (drop (i + 1) s)
-    name-next op = rw (next, le-leb 5 (getD s i 0) op)
+    name-next op = rw (drop-next s i h, le-leb 5 (getD s i 0) op)
 
     pub name-room : 5 ≤ getD s i 0 → n < length names
     name-room op = omega (arith, l .room, ap length (name-next op))
@@ -112,5 +110,5 @@ module _ {s old names : List ℕ} {n i : ℕ} (l : Listing s old names n i) wher
 
     pub not-listed : {m : ℕ} {more : List ℕ} → getD s i 0 < 5 → more ≡ names → m ≡ n → Listing s old more m (i + 1)
     not-listed op f g =
-        let e : namesIn (drop i s) ≡ namesIn (drop (i + 1) s) = rw (next, lt-leb 5 (getD s i 0) op) in
+        let e : namesIn (drop i s) ≡ namesIn (drop (i + 1) s) = rw (drop-next s i h, lt-leb 5 (getD s i 0) op) in
         rw (g, f) (record { within = omega arith; long = l .long; room = omega (arith, l .room, ap length e); rest = ap (sets names n) (sym e) ∙ l .rest })

@@ -97,4 +97,3 @@ module _ (E : ℕ) {kind : ℕ} (file : List ℕ) (at : ℕ) (b : List ℕ) (low
                 within = symbols-within;
                 holds = record { same-kind = refl; cells = o .cells };
               }))
-

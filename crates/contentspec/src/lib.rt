@@ -110,4 +110,3 @@ pub fn put_content(file: &[u8], at: usize, kind: u32, elements: u32, block: &mut
         next: to,
     }
 }
-

@@ -1,5 +1,5 @@
 -- An edit, read at a place of the edit file. Assumes nothing.
-use mathlib.Core.Path.{_≡_, refl, ap, _∙_}
+use mathlib.Core.Path.{_≡_, refl}
 use mathlib.Core.Logic.{_⊎_, inl, inr}
 use mathlib.Core.List.{List}
 use Prim.Native.Nat.{ℕ, _+_, _≤_, _<_}
@@ -8,7 +8,7 @@ use borrow.Author.Tests.{le-leb, lt-leb}
 use lib.ListN.{take, drop}
 use Rattle.paper.specs.Basics.{mostTokens}
 use Rattle.paper.specs.Files.{largest}
-use Rattle.paper.specs.Schema.{stop, ok}
+use Rattle.paper.specs.Schema.{stop}
 use Rattle.paper.specs.Program.{request}
 use Rattle.reading.specs.declared.Step.{Step}
 use Rattle.reading.specs.declared.Place.{Place}

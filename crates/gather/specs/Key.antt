@@ -5,7 +5,6 @@ use mathlib.Core.List.{List, map}
 use Prim.Native.Nat.{ℕ, suc, _+_, _*_, _/_, _%_, _≤_, _<_}
 use native.Mathlib.Omega.{arith}
 use borrow.Author.Tests.{not-false}
-use lib.ListN.{getD}
 use mir.Syntax.{w32}
 use mir.Val.{Fits}
 use Rattle.paper.specs.Basics.{mostTokens, mostNumber}
@@ -38,7 +37,6 @@ key-is i v h =
     let q : (i * valueCount + v) % valueCount ≡ v = omega arith in
     ap₂ (λ x y. (x, y)) p q
 
--- the key of a value token of a document
-pub key-fits : (doc : List ℕ) (used i : ℕ) {v : ℕ} {z : Bool} → i < used → used ≤ mostTokens → z ≡ valueTok (tokOf (getD doc i 0)) → not z ≡ false
-    → v ≡ getD doc i 0 / 8 → Fits w32 (i * valueCount + v)
-key-fits doc used i {v} {z} h l ez k ev = record { fits = omega (arith, value-small (getD doc i 0) (sym ez ∙ not-false z k)) }
+-- the key of a value token, at a place of a document
+pub key-fits : (i x : ℕ) {v : ℕ} {z : Bool} → i ≤ mostTokens → z ≡ valueTok (tokOf x) → not z ≡ false → v ≡ x / 8 → Fits w32 (i * valueCount + v)
+key-fits i x {v} {z} h ez k ev = record { fits = omega (arith, value-small x (sym ez ∙ not-false z k)) }

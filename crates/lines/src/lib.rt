@@ -5,8 +5,6 @@ use copying::copy_bytes;
 use paper::AMBIGUOUS;
 use paper::BROKEN;
 use paper::SCHEMA;
-ghost use mathlib.Core.Path.{_≡_};
-ghost use mathlib.Core.List.{[], _∷_};
 ghost use Prim.Native.Nat.{_+_, _≤_, _<_};
 ghost use lib.ListN.{length};
 ghost use Rattle.paper.specs.Program.{halt, line};
@@ -74,4 +72,3 @@ pub fn put_stop(out: &mut [u8], at: usize, number: u32) -> usize
     }
     put_text(out, at, b"stop 5\n")
 }
-

@@ -129,4 +129,3 @@ pub fn output(
     }
     put_schema(schema, doc, edits, out)
 }
-

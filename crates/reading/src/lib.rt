@@ -64,4 +64,3 @@ pub fn no_place(number: u32) -> Place
 {
     Place { number, next: 0 }
 }
-

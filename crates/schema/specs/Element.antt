@@ -93,4 +93,3 @@ module _ (E : ℕ) (file : List ℕ) (at : ℕ) {k : Step} (p : Numbered 0 2 fil
                   within = l .within;
                   holds = e ∙ cells-are (content .holds) (l .holds);
                 })
-

@@ -27,17 +27,15 @@ ElementsIn E file at r before after = Ended (elementsOf E E (drop at file)) file
 
 -- ---- zeros
 
-zeros-front : (k n : ℕ) → k ≤ n → take {A = ℕ} k (replicate n 0) ≡ replicate k 0
-zeros-front k n h = ap (take {A = ℕ} k) (sym split) ∙ take-at (replicate k 0) (replicate (n - k) 0) k (length-replicate k 0)
-  where
-    split : _≡_ {A = List ℕ} (replicate k 0 ++ replicate (n - k) 0) (replicate n 0)
-    split = let d : k + (n - k) ≡ n = omega arith in replicate-append-replicate k (n - k) 0 ∙ ap (λ m. replicate m 0) d
+module _ (k n : ℕ) (h : k ≤ n) where
+  split : _≡_ {A = List ℕ} (replicate n 0) (replicate k 0 ++ replicate (n - k) 0)
+  split = let d : n ≡ k + (n - k) = omega arith in ap (λ m. replicate m 0) d ∙ sym (replicate-append-replicate k (n - k) 0)
 
-zeros-after : (k n : ℕ) → k ≤ n → drop {A = ℕ} k (replicate n 0) ≡ replicate (n - k) 0
-zeros-after k n h = ap (drop {A = ℕ} k) (sym split) ∙ drop-at (replicate k 0) (replicate (n - k) 0) k (length-replicate k 0)
-  where
-    split : _≡_ {A = List ℕ} (replicate k 0 ++ replicate (n - k) 0) (replicate n 0)
-    split = let d : k + (n - k) ≡ n = omega arith in replicate-append-replicate k (n - k) 0 ∙ ap (λ m. replicate m 0) d
+  zeros-front : take {A = ℕ} k (replicate n 0) ≡ replicate k 0
+  zeros-front = ap (take {A = ℕ} k) split ∙ take-at (replicate k 0) (replicate (n - k) 0) k (length-replicate k 0)
+
+  zeros-after : drop {A = ℕ} k (replicate n 0) ≡ replicate (n - k) 0
+  zeros-after = ap (drop {A = ℕ} k) split ∙ drop-at (replicate k 0) (replicate (n - k) 0) k (length-replicate k 0)
 
 -- ---- one block after another
 
@@ -147,4 +145,3 @@ module _ (E : ℕ) (file : List ℕ) (at : ℕ) (before : List ℕ) where
                   ∙ part-put (getD before 0 0) (getD before 1 0) (concat (map blockOf (t .l))) (tableLength - 2 - i * blockLength) start (start + blockLength - start) starts (omega arith) (omega arith) y
                   ∙ ap₂ (λ c m. tabled (getD before 0 0) (getD before 1 0) c m) (sym more) n;
             }
-

@@ -1,5 +1,5 @@
 -- The whole schema in a table, and what is translated. Assumes nothing.
-use mathlib.Core.Path.{_≡_, refl, sym, ap, ap₂, _∙_}
+use mathlib.Core.Path.{_≡_, refl, ap₂, _∙_}
 use mathlib.Core.List.{List, [], _∷_, map}
 use Prim.Native.Nat.{ℕ, _-_, _≤_, _<_}
 use native.Mathlib.Omega.{arith}
@@ -119,4 +119,3 @@ module _ (file table : List ℕ) where
     translate-done z l e =
         let v = w .went z in
         rw (eq-eqb (length table) tableLength h, v .reads) (ap₂ (λ n t. (n, t)) z (copied-whole table made tableLength l h e ∙ v .holds))
-

@@ -7,8 +7,8 @@ use attlist::attributes_at;
 use contentspec::put_content;
 use copying::copy_words;
 use paper::ALLOWED_AT;
-use paper::BLOCKS_AT;
 use paper::BLOCK_WORDS;
+use paper::BLOCKS_AT;
 use paper::DONE;
 use paper::EMPTY;
 use paper::ID_AT;
@@ -143,4 +143,3 @@ pub fn translate(file: &[u8], table: &mut [u64]) -> u32
     copy_words(table, 0, &made, 0, TABLE_WORDS);
     number
 }
-

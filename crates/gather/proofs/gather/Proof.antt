@@ -1,5 +1,6 @@
 -- `gather::gather` meets its contract. The loop's invariant is `Gathering`; the measure is how many tokens are left. Assumes nothing.
 use Prim.Native.Nat.{_-_}
+use native.Mathlib.Omega.{arith}
 use Rattle.gather.specs.Key.{key-fits}
 use Rattle.gather.specs.Gather.{Gathering, gather-none, gather-all, gather-start, gather-attribute, gather-other, gather-value}
 use borrow.Author.Needs.{needs}
@@ -73,7 +74,7 @@ number-requires-3 : tie.Need-number-requires-3 Inv-loop μ-loop
 number-requires-3 c κs = search needs
 
 add-key : tie.Need-add-key Inv-loop μ-loop
-add-key c = search key-fits
+add-key c = key-fits _ _ (omega arith) (c .before .before .is-value .ensures) (c .before .if3 .left) (c .number3 .ensures)
 
 is-in-requires : tie.Need-is-in-requires Inv-loop μ-loop
 is-in-requires c κs = search needs

@@ -21,7 +21,10 @@ cell-requires-3 : tie.Need-cell-requires-3
 cell-requires-3 c κs = search needs
 
 returns-2 : tie.Need-returns-2
-returns-2 c = search kinds-some
+returns-2 c =
+    let t = c .before .before .before in
+    let s = t .before .before .before in
+    kinds-some (s .args .table .now) (s .args .e) (t .if1 .left) (c .before .before .cell .ensures) (c .before .cell2 .ensures) (c .cell3 .ensures)
 
 pub kinds-of-spec : {M : Type 1} → statement M
 kinds-of-spec =
