@@ -12,7 +12,7 @@ use lib.Dec.{ltb, eqb}
 use lib.ListN.{getD}
 use Rattle.paper.specs.declared.Tok.{Tok}
 use Rattle.paper.specs.declared.Tok.the-variants.{Start, End, Text}
-use Rattle.paper.specs.Basics.{all, find, null, elem as elemOf}
+use Rattle.paper.specs.Basics.{all, null, elem as elemOf}
 use Rattle.paper.specs.Table.{block, cell, kindAt, countAt, namesAt, proper}
 use Rattle.paper.specs.Tokens.{heads, kids}
 use Rattle.paper.specs.Shape.{isElement}

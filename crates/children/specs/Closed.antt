@@ -15,7 +15,7 @@ use Rattle.paper.specs.declared.Tok.the-variants.{Start, End, Text, Attr, Value
 use Rattle.paper.specs.Tokens.{toks, kids, close, starts}
 use Rattle.basic_laws.specs.Bools.{clash}
 use Rattle.shape_laws.specs.Ends.{rest-none}
-use Rattle.shape_laws.specs.ShapeTurns.{length-toks}
+use Rattle.shape_laws.specs.Bridge.{length-toks}
 use Rattle.places.specs.Closing.{closing, closing-length, closed-at, close-le}
 use Rattle.tokens.specs.Sorts.{ends, textTok}
 

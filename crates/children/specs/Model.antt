@@ -13,7 +13,7 @@ use Rattle.paper.specs.Tokens.{tokOf, toks, kids, starts}
 use Rattle.paper.specs.Rules.{State, start, runs, ended}
 use Rattle.paper.specs.Judgement.{noText, named}
 use Rattle.shape_laws.specs.Ends.{rest-next}
-use Rattle.shape_laws.specs.ShapeTurns.{length-toks}
+use Rattle.shape_laws.specs.Bridge.{length-toks}
 use Rattle.table.specs.declared.Run.{Run}
 use Rattle.table.specs.Run.{stateOf, inside, Stepped, onward, onward-step}
 use Rattle.tokens.specs.Sorts.{ends, textTok}

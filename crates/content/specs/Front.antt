@@ -4,12 +4,10 @@ use mathlib.Core.Option.{some}
 use mathlib.Core.List.{List, [], _∷_, _++_, append-assoc, append-cancel-right}
 use Prim.Native.Nat.{ℕ, zero, suc, _+_, _≤_, _<_}
 use native.Mathlib.Omega.{arith}
-use lib.ListN.{length}
 use Rattle.paper.specs.Expressions.{Expr, name, seq, alt, opt, star, plus, count}
 use Rattle.paper.specs.Schema.{symbolsOf, exprOf}
 use Rattle.basic_laws.specs.Numbers.{five}
-use Rattle.content_laws.specs.Names.{count-some}
-use Rattle.content_laws.specs.Symbols.{exprOf-iff, symbols-some}
+use Rattle.content_laws.specs.Symbols.{exprOf-iff}
 
 -- ---- at least one name, at least one symbol
 

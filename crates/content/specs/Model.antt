@@ -6,14 +6,14 @@ use mathlib.Core.List.{List, _∷_, _++_, map}
 use Prim.Native.Nat.{ℕ, zero, suc, _+_, _-_, _≤_}
 use native.Mathlib.Omega.{arith}
 use lib.Dec.{T}
-use lib.ListN.{length, replicate, length-map, length-append, length-replicate}
+use lib.ListN.{length, replicate, length-map}
 use lib.Bits.{or-zero-l}
 use Rattle.paper.specs.Basics.{mostNames, from, pad}
 use Rattle.paper.specs.Expressions.{Expr, count}
 use Rattle.paper.specs.Sets.{nullable, follow, firstWord, lastWord, followWord}
 use Rattle.paper.specs.Schema.{exprOf}
 use Rattle.paper_laws.specs.Words.{none-zero}
-use Rattle.paper_laws.specs.Basics.{length-from, length-pad}
+use Rattle.paper_laws.specs.Basics.{length-from}
 use Rattle.content_laws.specs.Within.{follow-within}
 use Rattle.content_laws.specs.Words.{follow-word}
 use Rattle.content.specs.declared.Model.{Model}

@@ -1,11 +1,10 @@
 -- What the calls of document files promise, of any outcomes o that their contracts allow: o ≡ read .., o ≡ write .. Assumes nothing.
-use mathlib.Core.Path.{_≡_, refl, ap, _∙_}
+use mathlib.Core.Path.{_≡_, ap, _∙_}
 use mathlib.Core.Bool.{true}
 use mathlib.Core.List.{List}
 use Prim.Native.Nat.{ℕ, _≤_}
-use lib.ListN.{length, drop}
-use lib.Seq.{drop-append-seam}
-use Rattle.paper.specs.Files.{fileOf, Result, refused, made, Counted, counted, reading, writing, read, write}
+use lib.ListN.{length}
+use Rattle.paper.specs.Files.{fileOf, Counted, read, write}
 use Rattle.numbers.specs.Laws.{bytes}
 use Rattle.docfile.specs.Done.{content, ReadDone, read-done, file-back, reads, WriteDone, write-done, same-tokens, writes}
 

@@ -24,7 +24,7 @@ use Rattle.form.specs.declared.Form.{Form}
 use Rattle.form.specs.Size.{size-is}
 use Rattle.form.specs.Form.{Formed, shaped, allowed-within}
 use Rattle.edits.specs.Written.{splice-front}
-use Rattle.shape_laws.specs.ShapeTurns.{length-toks}
+use Rattle.shape_laws.specs.Bridge.{length-toks}
 
 -- with the buffer
 abbrev pub outcomeOf : Answer → List ℕ → Outcome

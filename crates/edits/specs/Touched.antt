@@ -10,9 +10,8 @@ use Rattle.paper.specs.declared.Tok.{Tok}
 use Rattle.paper.specs.Tokens.{toks, starts, balanced, parent, touched}
 use Rattle.paper.specs.Rules.{ofTable}
 use Rattle.paper.specs.Judgement.{Answer, faultAt, first, startPlace, elementFault, judge, orElse}
-use Rattle.shape_laws.specs.Bridge.{toks-take}
+use Rattle.shape_laws.specs.Bridge.{toks-take, length-toks}
 use Rattle.shape_laws.specs.Touch.{inside, touched-is, parentOf}
-use Rattle.shape_laws.specs.ShapeTurns.{length-toks}
 use Rattle.keys.specs.declared.Fault.{Fault}
 use Rattle.judge.specs.Elements.{found, firstIn, first-same}
 use Rattle.judge.specs.Check.{judgedWith, judged-is}

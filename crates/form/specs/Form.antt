@@ -14,12 +14,11 @@ use Rattle.paper.specs.Basics.{mostTokens, mostDeep, between}
 use Rattle.paper.specs.Tokens.{toks, tokOf, itemSize, deep}
 use Rattle.paper.specs.Shape.{isElement, shallow, shapeOf}
 use Rattle.paper.specs.Edits.{Request, attrAt, attrCut, goodPiece, goodPlace, spliceAt, spliceCut, coming, splice, edited, fits, formFault}
-use Rattle.shape_laws.specs.ShapeTurns.{length-toks}
+use Rattle.shape_laws.specs.Bridge.{length-toks, toks-take}
 use Rattle.shape_laws.specs.Keep.{Cut, element-parts}
 use Rattle.shape_laws.specs.Splice.{cut-item}
 use Rattle.shape_laws.specs.Attrs.{attr-rest}
 use Rattle.shape_laws.specs.Depth.{openIn}
-use Rattle.shape_laws.specs.Bridge.{toks-take}
 use Rattle.shape_laws.specs.Five.{Allowed, insert, remove, replace, replace-root, attribute, five-deep, place-deep}
 use Rattle.shape_laws.specs.EditJudged.{allowed-by, coming-toks, edited-toks}
 use Rattle.form.specs.declared.Plan.{Plan}

@@ -13,11 +13,11 @@ use Rattle.paper.specs.declared.Tok.{Tok}
 use Rattle.paper.specs.declared.Tok.the-variants.{Start, End, Text, Attr, Value, Bad}
 use Rattle.paper.specs.Tokens.{tokOf, toks, starts, isStart, itemSize, slot, held}
 use Rattle.paper.specs.Edits.{isText, opens, opensOrEnds, atHead, attrNumber, attrAt, attrCut, goodPlace, spliceAt, spliceCut}
-use Rattle.shape_laws.specs.ShapeTurns.{length-toks}
+use Rattle.shape_laws.specs.Bridge.{length-toks}
 use Rattle.form.specs.declared.Plan.{Plan}
 use Rattle.tokens.specs.Sorts.{ends, textTok}
 use Rattle.places.specs.Items.{headTok, head-is, start-within}
-use Rattle.places.specs.Counts.{slot-le}
+use Rattle.slots.specs.Counts.{slot-le}
 use Rattle.form.specs.Pieces.{by-1, by-2, by-3, by-more}
 
 -- a plan, if its place is good

@@ -4,14 +4,14 @@
 // beside it.
 // Assumes nothing.
 use places::depth;
-use places::held_at;
 use places::item_size;
 use places::open_at;
-use places::slot_at;
 use places::splice_into;
 use places::token_at;
-use places::values_at;
 use shape::element_shape;
+use slots::held_at;
+use slots::slot_at;
+use slots::values_at;
 use tokens::is_attribute;
 use tokens::is_end;
 use tokens::is_start;

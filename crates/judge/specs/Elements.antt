@@ -16,7 +16,7 @@ use Rattle.paper.specs.Rules.{ofTable}
 use Rattle.paper.specs.Judgement.{Answer, none-found, orElse, contentGood, elementFault, faultAt, first, startPlace, whole}
 use Rattle.basic_laws.specs.Bools.{clash}
 use Rattle.shape_laws.specs.Ends.{rest-next}
-use Rattle.shape_laws.specs.ShapeTurns.{length-toks}
+use Rattle.shape_laws.specs.Bridge.{length-toks}
 use Rattle.attributes.specs.declared.Front.{Front}
 use Rattle.attributes.specs.Attributes.{Judged}
 use Rattle.tokens.specs.Theorems.{start-iff}

@@ -11,7 +11,7 @@ use lib.ListN.{length, drop, getD, length-drop, drop-of-length-le}
 use lib.Seq.{drop-drop}
 use Rattle.paper.specs.Files.{largest, Front, broken, got, second, third, front}
 use Rattle.basic_laws.specs.Lists.{drop-next}
-use Rattle.numbers.specs.Laws.{bytes, bytes-drop, never}
+use Rattle.numbers.specs.Laws.{bytes, never}
 use Rattle.numbers.specs.declared.Num.{Num}
 use Rattle.numbers.specs.declared.Num.the-variants.{Broken, Got}
 
@@ -154,7 +154,3 @@ module _ (s : List ℕ) (at : ℕ) where
       go : (f : Front) → front (drop at s) ≡ f → placed (length s) f ≡ Broken → front (drop at s) ≡ broken
       go broken p e = p
       go (got w r) p e = let z : _≡_ {A = ℕ} 0 1 = cc in absurd (omega arith)
-
-  -- A number that is read of bytes is not too large.
-  pub at-small : (v next : ℕ) → bytes s ≡ true → numAt s at ≡ Got v next → v ≤ largest
-  at-small v next l e = front-small (drop at s) (bytes-drop at s l) (at-got v next e .reads)

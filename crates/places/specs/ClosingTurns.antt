@@ -13,7 +13,7 @@ use Rattle.paper.specs.declared.Tok.{Tok}
 use Rattle.paper.specs.declared.Tok.the-variants.{Start, End, Text, Attr, Value, Bad}
 use Rattle.paper.specs.Tokens.{tokOf, toks, close}
 use Rattle.shape_laws.specs.Ends.{rest-next, rest-none}
-use Rattle.shape_laws.specs.ShapeTurns.{length-toks}
+use Rattle.shape_laws.specs.Bridge.{length-toks}
 use Rattle.places.specs.Closing.{closing, closingAt, close-le, close-outer, close-none, closing-length, closing-at}
 
 -- from place p on all is written, and e is what stands at p

@@ -10,7 +10,7 @@ use Rattle.paper.specs.declared.Tok.{Tok}
 use Rattle.paper.specs.declared.Tok.the-variants.{Start, End, Text, Attr, Value, Bad}
 use Rattle.paper.specs.Tokens.{tokOf, toks, starts, close, endOf, itemSize}
 use Rattle.basic_laws.specs.Bools.{clash}
-use Rattle.shape_laws.specs.ShapeTurns.{length-toks}
+use Rattle.shape_laws.specs.Bridge.{length-toks}
 use Rattle.tokens.specs.Sorts.{textTok}
 use Rattle.places.specs.Closing.{close-le}
 

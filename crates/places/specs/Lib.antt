@@ -8,7 +8,5 @@ pub mod Closing
 pub mod ClosingTurns
 -- The elements open at a place, and the depth of a piece
 pub mod Depths
--- The values from a place on, and the slot of an attribute
-pub mod Counts
 -- The splice
 pub mod Splicing

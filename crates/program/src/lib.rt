@@ -2,8 +2,8 @@
 //
 // `output` goes over schema, document, check and edits in turn and puts the lines into a buffer. It asks nothing of the files. Assumes
 // nothing.
-use edit_file::edit_at;
-use lines::LINE;
+use edit_lines::OUTPUT;
+use edit_lines::put_edits;
 use lines::put_line;
 use lines::put_stop;
 use paper::DONE;
@@ -23,46 +23,11 @@ ghost use Rattle.paper.specs.Table.{proper};
 ghost use Rattle.paper.specs.Rules.{ofTable};
 ghost use Rattle.paper.specs.Judgement.{checking};
 ghost use Rattle.paper.specs.Program;
-ghost use Rattle.paper.specs.Program.{editLines, checkLines, documentLines, schemaLines, places, printed};
+ghost use Rattle.paper.specs.Program.{checkLines, documentLines, schemaLines, places, printed};
 ghost use Rattle.lines.specs.Put.{Put};
-ghost use Rattle.lines.specs.Lines.{text, lineRoom};
-ghost use Rattle.program.specs.Run.{outputRoom};
+ghost use Rattle.lines.specs.Lines.{text};
+ghost use Rattle.edit_lines.specs.Run.{outputRoom};
 ghost use Rattle.program.specs.Stages.{given};
-
-// Room for every line: an edit is three bytes or more, so there are at most 21,845, with the check's line before them and a stop after.
-pub const OUTPUT: usize = 21847 * LINE;
-
-// "one for each edit, from 1"
-fn put_edits(
-    table: &[u64],
-    doc: &mut [u32],
-    used: usize,
-    file: &[u8],
-    out: &mut [u8],
-    at: usize,
-) -> usize
-    requires { ⌜ (proper (now table) ≡ true) × (length (now file) ≤ mostFile) × (length (now out) ≡ outputRoom) × (at ≤ lineRoom) ⌝ }
-    ensures { λ r. ⌜ Put (now (out .entry)) at (text (editLines (length (now (file .entry))) (ofTable (now (table .entry))) 1 (now (doc .entry)) used (now (file .entry)))) r (now (out .exit)) ⌝ }
-{
-    let mut piece = [0u32; MOST_TOKENS];
-    let mut held = used;
-    let mut from: usize = 0;
-    let mut k: usize = 1;
-    let mut to = at;
-    while from < file.len() {
-        let e = edit_at(file, from, &mut piece);
-        if e.number != DONE {
-            return put_stop(out, to, e.number);
-        }
-        let n = e.count;
-        let a = edits::edit(table, doc, held, e.operation, e.place as usize, &piece[..n]);
-        to = put_line(out, to, k, a.number, a.place, a.used);
-        held = a.used;
-        from = e.next;
-        k += 1;
-    }
-    to
-}
 
 // "After a check that isn't 0 nothing more is printed."
 fn put_check(table: &[u64], doc: &mut [u32], used: usize, file: &[u8], out: &mut [u8]) -> usize

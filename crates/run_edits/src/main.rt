@@ -2,9 +2,9 @@
 //
 // `program::output` makes every byte that is printed. Here the three files are opened and read, and the bytes are written. No contract
 // says which bytes the system reads or writes, so what it answers is kept with each file, and what follows from that is proved.
+use edit_lines::OUTPUT;
 use libc::STDOUT_FILENO;
 use paper::MOST_FILE;
-use program::OUTPUT;
 ghost use mathlib.Core.Path.{_≡_};
 ghost use Prim.Native.Nat.{_+_, _≤_};
 ghost use lib.ListN.{length};

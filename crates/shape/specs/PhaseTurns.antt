@@ -11,7 +11,6 @@ use Rattle.paper.specs.declared.Tok.the-variants.{Start, End, Text, Attr, Value
 use Rattle.paper.specs.Basics.{mostNumber}
 use Rattle.paper.specs.Tokens.{levelOf}
 use Rattle.paper.specs.Shape.{Phase, Head, Named, Valued, Body, Fail, phaseOf}
-use Rattle.shape_laws.specs.Phases.{bad-fails}
 use Rattle.tokens.specs.Sorts.{token, by-sort}
 use Rattle.shape.specs.Scan.{rules, follow, numbers, rise, isAttribute, isValue, holds}
 

@@ -1,10 +1,16 @@
 -- From buffers of numbers to lists of tokens. Assumes nothing.
 use mathlib.Core.Path.{_≡_, refl, ap, ap₂, _∙_}
 use mathlib.Core.List.{List, [], _∷_, _++_, map-append}
-use Prim.Native.Nat.{ℕ, zero, suc, _+_}
-use lib.ListN.{take, drop}
+use Prim.Native.Nat.{ℕ, zero, suc, _+_, _≤_}
+use native.Mathlib.Nat.{not-suc-le-zero, le-of-suc-le-suc}
+use lib.ListN.{length, take, drop}
 use Rattle.paper.specs.Edits.{splice}
 use Rattle.paper.specs.Tokens.{tokOf, toks}
+
+pub length-toks : (buf : List ℕ) (used : ℕ) → used ≤ length buf → length (toks (take used buf)) ≡ used
+length-toks buf zero h = refl
+length-toks [] (suc used) h = absurd (not-suc-le-zero h)
+length-toks (x ∷ buf) (suc used) h = ap suc (length-toks buf used (le-of-suc-le-suc h))
 
 pub toks-take : (n : ℕ) (a : List ℕ) → toks (take n a) ≡ take n (toks a)
 toks-take zero a = refl

@@ -4,10 +4,8 @@ use mathlib.Core.Bool.{true, false}
 use mathlib.Core.List.{List, [], _∷_}
 use Prim.Native.Nat.{ℕ, zero, suc, _+_, _-_, _≤_, _<_, max}
 use native.Mathlib.Nat.{le-trans, not-suc-le-zero, le-of-suc-le-suc, add-zero}
-use native.Mathlib.Numerals.{add-one, sub-one}
+use native.Mathlib.Numerals.{add-one}
 use native.Mathlib.Omega.{arith}
-use lib.Dec.{eqb}
-use borrow.Author.Tests.{ne-eqb}
 use lib.ListN.{length, take, drop, getD}
 use Rattle.paper.specs.declared.Tok.{Tok}
 use Rattle.paper.specs.declared.Tok.the-variants.{Start, End, Text, Attr, Value, Bad}
@@ -47,18 +45,6 @@ deep-turn buf used i k m {t} low h l et =
 
 pub deep-out : (buf : List ℕ) (used i k m : ℕ) → i ≡ used → max m (deep k (drop i (toks (take used buf)))) ≡ max m k
 deep-out buf used i k m e = rw (e, rest-none)
-
--- the code's answers
-pub close-end : (k : ℕ) {t : Tok} → t ≡ End → eqb k 0 ≡ closesOf k t
-close-end zero e = rw e
-close-end (suc k) e = rw (e, ne-eqb (suc k) 0 (λ p. omega arith))
-
-pub level-end : (k : ℕ) {t : Tok} → t ≡ End → k - 1 ≡ levelOf k t
-level-end zero e = rw e
-level-end (suc k) e = rw (e, sub-one)
-
-pub level-start : (k : ℕ) {n : ℕ} {t : Tok} → t ≡ Start n → k + 1 ≡ levelOf k t
-level-start k e = rw (e, add-one)
 
 pub level-le : (k : ℕ) (t : Tok) → levelOf k t ≤ k + 1
 level-le k (Start n) = omega arith

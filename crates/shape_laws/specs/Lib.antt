@@ -1,8 +1,6 @@
--- Laws of token lists. Ends, ShapeTurns and Move are turns of loops; Phases to Five say what an edit leaves as it was; Tree says that
--- shape is a tree; EditJudged says what follows for judging an edit.
+-- Laws of token lists. Ends has turns of loops; Bridge goes from numbers to tokens; Phases to Five say what an edit leaves as it was; Tree
+-- says that shape is a tree; EditJudged says what follows for judging an edit.
 pub mod Ends
-pub mod ShapeTurns
-pub mod Move
 pub mod Bridge
 pub mod Local
 pub mod Phases

@@ -6,11 +6,10 @@ use Prim.Native.Nat.{ℕ, zero, suc, _+_, _-_, _≤_, _<_, suc-le-suc}
 use native.Mathlib.Omega.{arith}
 use borrow.Author.Tests.{lt-leb, eq-eqb, ne-eqb}
 use lib.Dec.{leb, ltb, eqb}
-use native.Mathlib.Numerals.{add-one, sub-one}
 use lib.ListN.{length, take, drop, getD, length-take}
 use Rattle.shape_laws.specs.Ends.{rest-next, rest-none}
 use Rattle.shape_laws.specs.Local.{at-depth}
-use Rattle.shape_laws.specs.ShapeTurns.{length-toks}
+use Rattle.shape_laws.specs.Bridge.{length-toks}
 use Rattle.paper.specs.Judgement.{faultAt, first, orElse, startPlace}
 use Rattle.paper.specs.Tokens.{balanced, level, parent, run, starts, tokOf, toks, touched}
 use Rattle.paper.specs.declared.Tok.{Tok}
@@ -205,15 +204,3 @@ loose-begin buf at = rw rest-none
 
 pub loose-none : (buf : List ℕ) (at k : ℕ) → at ≤ length buf → Loose buf at 0 k → at ≡ parentOf (toks (take at buf))
 loose-none buf at k l e = sym (length-toks buf at l) ∙ parent-missing k (toks (take at buf)) e
-
--- the code's answers
-pub opens-start : (k : ℕ) {n : ℕ} {t : Tok} → t ≡ Start n → eqb k 0 ≡ opensOf k t
-opens-start zero e = rw e
-opens-start (suc k) e = rw (e, ne-eqb (suc k) 0 (λ p. omega arith))
-
-pub back-start : (k : ℕ) {n : ℕ} {t : Tok} → t ≡ Start n → k - 1 ≡ backOf k t
-back-start zero e = rw e
-back-start (suc k) e = rw (e, sub-one)
-
-pub back-end : (k : ℕ) {t : Tok} → t ≡ End → k + 1 ≡ backOf k t
-back-end k e = rw (e, add-one)

@@ -1,4 +1,5 @@
 -- `gather::kinds_of` meets its contract. Assumes nothing.
+use native.Mathlib.Omega.{arith}
 use Rattle.table.specs.Block.{table-has}
 use Rattle.gather.specs.Kinds.{kinds-none, kinds-some}
 use borrow.Author.Needs.{needs}
@@ -9,7 +10,7 @@ shared-slice-read-if1 : tie.Need-shared-slice-read-if1
 shared-slice-read-if1 c = search (needs, table-has)
 
 returns : tie.Need-returns
-returns c = search kinds-none
+returns c = let s = c .before .before .before in kinds-none (s .args .table .now) (s .args .e) (omega arith)
 
 cell-requires : tie.Need-cell-requires
 cell-requires c κs = search needs

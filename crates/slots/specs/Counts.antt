@@ -12,7 +12,7 @@ use Rattle.paper.specs.declared.Tok.{Tok}
 use Rattle.paper.specs.declared.Tok.the-variants.{Start, End, Text, Attr, Value, Bad}
 use Rattle.paper.specs.Tokens.{tokOf, toks, values, slot, held}
 use Rattle.shape_laws.specs.Ends.{rest-next, rest-none}
-use Rattle.shape_laws.specs.ShapeTurns.{length-toks}
+use Rattle.shape_laws.specs.Bridge.{length-toks}
 use Rattle.tokens.specs.Sorts.{attrTok, valueTok}
 use Rattle.tokens.specs.Theorems.{token-cases}
 

@@ -1,13 +1,13 @@
--- `program::put_edits` meets its contract. The loop's invariant is `Going`; the measure is how many bytes of the file are left. Assumes nothing.
+-- `edit_lines::put_edits` meets its contract. The loop's invariant is `Going`; the measure is how many bytes of the file are left. Assumes nothing.
 use mathlib.Core.Path.{sym, _∙_}
 use Prim.Native.Nat.{_-_}
 use native.Mathlib.Omega.{arith}
 use borrow.Author.Needs.{needs}
 use lib.ListN.{length}
 use lib.Seq.{length-take-le}
-use Rattle.program.specs.Run.{Going, go-none, go-end, go-room, go-stop, go-halt, go-less, go-more}
-use Rattle.program.proofs.put_edits.Statement.{statement}
-use Rattle.program.proofs.put_edits.Tie as tie
+use Rattle.edit_lines.specs.Run.{Going, go-none, go-end, go-room, go-stop, go-halt, go-less, go-more}
+use Rattle.edit_lines.proofs.put_edits.Statement.{statement}
+use Rattle.edit_lines.proofs.put_edits.Tie as tie
 
 abbrev Inv-loop : tie.InvT-loop
 Inv-loop table doc₀ used file out₀ at piece₀ held₀ from₀ k₀ to₀ doc out piece held from k to = Going table doc₀ used file out₀ at doc out piece held from k to

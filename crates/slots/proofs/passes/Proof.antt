@@ -1,7 +1,7 @@
-use Rattle.places.specs.Counts.{passes-told}
+use Rattle.slots.specs.Counts.{passes-told}
 use borrow.Author.Needs.{needs}
-use Rattle.places.proofs.passes.Statement.{statement}
-use Rattle.places.proofs.passes.Tie as tie
+use Rattle.slots.proofs.passes.Statement.{statement}
+use Rattle.slots.proofs.passes.Tie as tie
 
 is-value-requires : tie.Need-is-value-requires
 is-value-requires c κs = search needs

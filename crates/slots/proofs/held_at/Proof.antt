@@ -1,9 +1,9 @@
 use Prim.Native.Nat.{_≤_}
 use native.Mathlib.Omega.{arith}
-use Rattle.places.specs.Counts.{held-past, held-other, held-some, values-few}
+use Rattle.slots.specs.Counts.{held-past, held-other, held-some, values-few}
 use borrow.Author.Needs.{needs}
-use Rattle.places.proofs.held_at.Statement.{statement}
-use Rattle.places.proofs.held_at.Tie as tie
+use Rattle.slots.proofs.held_at.Statement.{statement}
+use Rattle.slots.proofs.held_at.Tie as tie
 
 returns : tie.Need-returns
 returns c = search held-past

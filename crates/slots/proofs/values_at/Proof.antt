@@ -1,10 +1,10 @@
--- `edits::values_at` meets its contract. Assumes nothing.
+-- `slots::values_at` meets its contract. Assumes nothing.
 use borrow.Author.Needs.{needs}
-use Rattle.places.specs.Counts.{Counting, values-begin, values-out, values-stop, values-turn}
+use Rattle.slots.specs.Counts.{Counting, values-begin, values-out, values-stop, values-turn}
 use Rattle.paper.specs.Tokens.{values}
 use Prim.Native.Nat.{_-_}
-use Rattle.places.proofs.values_at.Statement.{statement}
-use Rattle.places.proofs.values_at.Tie as tie
+use Rattle.slots.proofs.values_at.Statement.{statement}
+use Rattle.slots.proofs.values_at.Tie as tie
 
 abbrev Inv-loop : tie.InvT-loop
 Inv-loop doc used at i₀ i = Counting values doc used at i

@@ -1,10 +1,10 @@
--- `edits::slot_at` meets its contract. Assumes nothing.
+-- `slots::slot_at` meets its contract. Assumes nothing.
 use borrow.Author.Needs.{needs}
-use Rattle.places.specs.Counts.{Counting, slot-begin, slot-out, slot-stop, slot-turn}
+use Rattle.slots.specs.Counts.{Counting, slot-begin, slot-out, slot-stop, slot-turn}
 use Rattle.paper.specs.Tokens.{slot}
 use Prim.Native.Nat.{_-_}
-use Rattle.places.proofs.slot_at.Statement.{statement}
-use Rattle.places.proofs.slot_at.Tie as tie
+use Rattle.slots.proofs.slot_at.Statement.{statement}
+use Rattle.slots.proofs.slot_at.Tie as tie
 
 abbrev Inv-loop : tie.InvT-loop
 Inv-loop doc used at a i₀ i = Counting (slot a) doc used at i

@@ -1,0 +1,2 @@
+-- The run of edits
+pub mod Run

@@ -1,0 +1,56 @@
+// The lines of the edits in an edit file: each edit is split off, made and told.
+//
+// The table is a proper one. The edits change the document that is lent; the lines go into a buffer with room for as many as a file can
+// ask for. Assumes nothing.
+use edit_file::edit_at;
+use lines::LINE;
+use lines::put_line;
+use lines::put_stop;
+use paper::DONE;
+use paper::MOST_TOKENS;
+ghost use mathlib.Core.Path.{_≡_};
+ghost use mathlib.Core.Bool.{true};
+ghost use Prim.Native.Nat.{_≤_};
+ghost use lib.ListN.{length};
+ghost use Rattle.paper.specs.Basics.{mostFile};
+ghost use Rattle.paper.specs.Table.{proper};
+ghost use Rattle.paper.specs.Rules.{ofTable};
+ghost use Rattle.paper.specs.Program.{editLines};
+ghost use Rattle.lines.specs.Put.{Put};
+ghost use Rattle.lines.specs.Lines.{text, lineRoom};
+ghost use Rattle.edit_lines.specs.Run.{outputRoom};
+
+// Room for every line: an edit is three bytes or more, so there are at most 21,845, with the check's line before them and a stop after.
+pub const OUTPUT: usize = 21847 * LINE;
+
+// "one for each edit, from 1"
+pub fn put_edits(
+    table: &[u64],
+    doc: &mut [u32],
+    used: usize,
+    file: &[u8],
+    out: &mut [u8],
+    at: usize,
+) -> usize
+    requires { ⌜ (proper (now table) ≡ true) × (length (now file) ≤ mostFile) × (length (now out) ≡ outputRoom) × (at ≤ lineRoom) ⌝ }
+    ensures { λ r. ⌜ Put (now (out .entry)) at (text (editLines (length (now (file .entry))) (ofTable (now (table .entry))) 1 (now (doc .entry)) used (now (file .entry)))) r (now (out .exit)) ⌝ }
+{
+    let mut piece = [0u32; MOST_TOKENS];
+    let mut held = used;
+    let mut from: usize = 0;
+    let mut k: usize = 1;
+    let mut to = at;
+    while from < file.len() {
+        let e = edit_at(file, from, &mut piece);
+        if e.number != DONE {
+            return put_stop(out, to, e.number);
+        }
+        let n = e.count;
+        let a = edits::edit(table, doc, held, e.operation, e.place as usize, &piece[..n]);
+        to = put_line(out, to, k, a.number, a.place, a.used);
+        held = a.used;
+        from = e.next;
+        k += 1;
+    }
+    to
+}

@@ -1,0 +1,2 @@
+-- The loops that count: values from a place on, and tokens before an attribute
+pub mod Counts
