@@ -7,3 +7,5 @@ pub mod Linked
 pub mod Parts
 pub mod Model
 pub mod Listed
+-- One outcome for one input
+pub mod Theorems

@@ -2,3 +2,5 @@
 pub mod Block
 pub mod Run
 pub mod Step
+-- One outcome for one input
+pub mod Theorems
