@@ -66,7 +66,7 @@ fn checks() {
 fn marked_cases() {
     assert_eq!(answer(2, 3, &[]).0, (9, 0, 15));
     assert_eq!(answer(2, 10, &[]).0, (0, 0, 11));
-    assert_eq!(answer(2, 7, &[]).0, (9, 6, 15));
+    assert_eq!(answer(2, 7, &[]).0, (0, 0, 14));
     assert_eq!(answer(1, 10, &[9, 12, 165, 2]).0, (11, 12, 15));
     assert_eq!(answer(1, 10, &[9, 12, 173, 2]).0, (0, 0, 19));
     assert_eq!(answer(1, 3, &[25, 20, 165, 2]).0, (9, 0, 15));
@@ -86,6 +86,20 @@ fn other_cases() {
     assert_eq!(answer(4, 0, &[4, 69, 69]).0, (8, 0, 15));
     assert_eq!(answer(5, 0, &[12]).0, (6, 0, 15));
     assert_eq!(answer(0, 99, &[]).0, (6, 0, 15));
+}
+
+/// A row has no text or one, and no child.
+#[test]
+fn rows() {
+    assert_eq!(answer(2, 7, &[]).1[..15], [1, 4, 61, 9, 12, 165, 17, 2, 2, 25, 20, 165, 2, 2, 0]);
+    assert_eq!(answer(1, 9, &[17, 2]).0, (0, 0, 17));
+    assert_eq!(answer(1, 9, &[17, 243, 2]).0, (0, 0, 18));
+    assert_eq!(answer(1, 9, &[17, 243, 243, 2]).0, (9, 9, 15));
+    assert_eq!(answer(1, 9, &[17, 25, 20, 165, 2, 2]).0, (9, 9, 15));
+    assert_eq!(answer(1, 7, &[251]).0, (9, 6, 15));
+    assert_eq!(answer(1, 8, &[251]).0, (9, 6, 15));
+    assert_eq!(answer(3, 7, &[25, 20, 165, 2]).0, (9, 6, 15));
+    assert_eq!(answer(1, 13, &[243]).0, (9, 10, 15));
 }
 
 #[test]
@@ -116,12 +130,7 @@ fn four_models() {
         symbols.resize(2 * names - 1, a);
         symbols
     };
-    for (symbols, number) in [
-        (vec![0, 2, a, a], 3),
-        (vec![1, 0, a, b, 0, a, c], 3),
-        (vec![3, 0, 3, a, 3, b], 0),
-        (row(64), 0),
-    ] {
+    for (symbols, number) in [(vec![0, 2, a, a], 3), (vec![1, 0, a, b, 0, a, c], 3), (vec![3, 0, 3, a, 3, b], 0), (row(64), 0)] {
         assert_eq!(ambiguous(&symbols), number == 3);
         assert_eq!(number_of_model(&symbols), number);
     }

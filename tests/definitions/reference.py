@@ -641,7 +641,7 @@ def judge_element(rules, element):
     if declared.kind == 0:
         fits = not names and texts == 0
     elif declared.kind == 1:
-        fits = not names and texts == 1
+        fits = not names and texts <= 1      # item 1: no text or one
     else:
         fits = texts == 0 and declared.model.describes(names)
     if not fits:
@@ -904,7 +904,7 @@ def self_test():
 
     try_edit(2, 3, [], (9, 0))
     try_edit(2, 10, [], (0, 11))
-    try_edit(2, 7, [], (9, 6))
+    try_edit(2, 7, [], (0, 14))
     try_edit(1, 10, [9, 12, 165, 2], (11, 12))
     try_edit(1, 10, [9, 12, 173, 2], (0, 19))
     try_edit(1, 3, [25, 20, 165, 2], (9, 0))
@@ -915,6 +915,17 @@ def self_test():
         try_edit(1, place, [25, 20, 165, 2], (6, 0))
     try_edit(1, 14, [25, 20, 165, 2], (0, 19))
     try_edit(1, 14, [9, 12, 173, 2], (9, 0))
+
+    # a row: no text or one, and no child (item 1)
+    try_edit(1, 7, [251], (9, 6))
+    try_edit(1, 8, [251], (9, 6))
+    try_edit(1, 8, [25, 20, 165, 2], (9, 6))
+    try_edit(3, 7, [25, 20, 165, 2], (9, 6))
+    try_edit(1, 9, [17, 2], (0, 17))
+    try_edit(1, 9, [17, 243, 2], (0, 18))
+    try_edit(1, 9, [17, 243, 243, 2], (9, 9))
+    try_edit(1, 9, [17, 25, 20, 165, 2, 2], (9, 9))
+    try_edit(1, 13, [243], (9, 10))
 
     edits = [2, 3, 0, 1, 10, 4, 9, 12, 173, 2, 3, 3, 4, 9, 12, 173, 2, 2, 14, 0, 2, 3, 0]
     files = [file_of(SHADE), file_of(SHADE_DOC), file_of(edits)]

@@ -106,9 +106,12 @@ impl Growth<'_> {
         let mut children = Vec::new();
         match &declaration.content {
             Content::Empty => {}
+            // No text or one.
             Content::Text => {
-                self.made += 1;
-                element.content.push(Item::Text(random.short()));
+                if random.chance(80) && self.pay(1) {
+                    self.made += 1;
+                    element.content.push(Item::Text(random.short()));
+                }
             }
             Content::Model(model) => self.word(random, &model.expression, below, &mut children),
             Content::Run(run) => self.run(random, run, &mut children),

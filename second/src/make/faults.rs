@@ -2,7 +2,7 @@
 
 use super::documents::chain;
 use super::keys;
-use crate::paper::grammar::{Grammar, Kind};
+use crate::paper::grammar::{Content, Grammar, Kind};
 use crate::paper::tree::{Attribute, Element, Item, Token};
 use crate::random::Random;
 
@@ -145,7 +145,13 @@ fn change_values(random: &mut Random, element: &mut Element, grammar: &Grammar, 
 }
 
 fn change_content(random: &mut Random, element: &mut Element, grammar: &Grammar) {
+    let is_row = grammar.declaration(element.name).map_or(false, |declaration| matches!(declaration.content, Content::Text));
     let content = &mut element.content;
+    if is_row && random.chance(40) {
+        // Texts side by side.
+        content.extend((0..2).map(|_| Item::Text(random.short())));
+        return;
+    }
     let at = random.below(content.len() + 1);
     let last = content.len().saturating_sub(1);
     match random.below(8) {

@@ -21,8 +21,7 @@ pub fn of(grammar: &Grammar) -> Sizes {
         for (e, element) in grammar.elements.iter().enumerate() {
             let head = 2 + 2 * element.attributes.iter().filter(|attribute| attribute.required).count();
             let (tokens, depth) = match &element.content {
-                Content::Empty => (0, 0),
-                Content::Text => (1, 0),
+                Content::Empty | Content::Text => (0, 0),
                 Content::Model(model) => (sizes.tokens_of(&model.expression), sizes.depth_of(&model.expression)),
                 Content::Run(_) => (ENDLESS, ENDLESS),
             };

@@ -77,7 +77,7 @@ impl Declaration {
     pub fn holds(&self, texts: usize, children: &[u16]) -> bool {
         match &self.content {
             Content::Empty => texts == 0 && children.is_empty(),
-            Content::Text => texts == 1 && children.is_empty(),
+            Content::Text => texts <= 1 && children.is_empty(),
             Content::Model(model) => texts == 0 && model.describes(children),
             Content::Run(run) => texts == 0 && run.describes(children),
         }
