@@ -297,7 +297,7 @@ shrike_count shrike_write(const uint32_t *tokens, size_t n, uint8_t *file, size_
 /* Translates the schema file `file` to a table, and answers a number. `words` is SHRIKE_TABLE_WORDS.
  *
  * The numbers of a schema file: the number of elements E, 1 to 48; the root, below E; then for each element 0 to E-1:
- *   - its kind: 0 empty (SHRIKE_EMPTY, and so on), 1 text only, 2 a content model;
+ *   - its kind: 0 empty (SHRIKE_EMPTY, and so on), 1 text only (no text or one), 2 a content model;
  *   - for kind 2 the count of symbols, 1 to 255, and the symbols: 0 sequence and 1 choice, each before two expressions; 2 optional, 3 zero
  *     or more and 4 one or more, each before one expression; 5+e the element e, below 5+E. They are exactly one expression, in which at
  *     most 64 names occur;
@@ -313,8 +313,9 @@ uint32_t shrike_translate(const uint8_t *file, size_t file_len, uint64_t *table,
 /* Checks the document in the first `used` places of `doc`.
  *
  * Order: the table (13); shape, and `used` over `room` (4); the root's name (10); then each element by rising place: its attributes (8: each
- * one allowed, all required ones present, one value each unless IDREFS), then its content (9); then an ID that stands twice (11); then a
- * reference to no ID (12). */
+ * one allowed, all required ones present, one value each unless IDREFS), then its content (9: an empty element has no child and no text, a
+ * text-only one has no text or one and no child, one with a model has no text and children that the model describes); then an ID that
+ * stands twice (11); then a reference to no ID (12). */
 shrike_verdict shrike_check(const uint64_t *table, size_t words, const uint32_t *doc, size_t room, uint64_t used);
 
 /* Edits the document in the first `used` places of `doc`, if the edited document keeps to the schema at what the edit touches. From a valid

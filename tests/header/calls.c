@@ -121,6 +121,7 @@ static void translators(void) {
 static void checks(void) {
     uint32_t doc[PLACES], due[PLACES];
     static const uint32_t no_text[] = {1, 4, 61, 9, 12, 165, 17, 2, 2, 25, 20, 165, 2, 2};
+    static const uint32_t two_texts[] = {1, 4, 61, 9, 12, 165, 17, 243, 243, 2, 2, 25, 20, 165, 2, 2};
     fill(doc, shade, SHADE);
     fill(due, shade, SHADE);
     JUDGED(check(table, TABLE, doc, PLACES, SHADE), 0, 0);
@@ -132,7 +133,8 @@ static void checks(void) {
     JUDGED(check(NULL, 0, doc, PLACES, SHADE), 13, 0);
     JUDGED(check(table, TABLE, NULL, 0, SHADE), 4, 0);
     BYTES(doc, due, sizeof doc);
-    JUDGED(check(table, TABLE, no_text, 14, 14), 9, 6);
+    JUDGED(check(table, TABLE, no_text, 14, 14), 0, 0);
+    JUDGED(check(table, TABLE, two_texts, 16, 16), 9, 6);
 }
 
 static void edits(void) {
@@ -140,7 +142,7 @@ static void edits(void) {
     fill(doc, shade, SHADE);
     fill(due, shade, SHADE);
     /* refusals: the used length comes back as it was given, and nothing is written */
-    ANSWERED(edit(table, TABLE, doc, PLACES, SHADE, 2, 7, NULL, 0), 9, 6, SHADE, 0);
+    ANSWERED(edit(table, TABLE, doc, PLACES, SHADE, 1, 7, shade + 7, 1), 9, 6, SHADE, 0);
     ANSWERED(edit(table, TABLE, doc, PLACES, SHADE, 3, 3, panel, PANEL), 12, 9, SHADE, 0);
     ANSWERED(edit(table, TABLE, doc, PLACES, OVER + SHADE, 2, 10, NULL, 0), 4, 0, OVER + SHADE, 0);
     ANSWERED(edit(table, TABLE, doc, PLACES, UINT64_MAX, 2, 10, NULL, 0), 4, 0, UINT64_MAX, 0);

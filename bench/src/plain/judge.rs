@@ -64,7 +64,10 @@ fn judge_attributes(element: Element, tokens: &[u32], mut at: usize) -> Result<u
 fn has_content(element: Element, tokens: &[u32], ends: &[u32], mut at: usize) -> bool {
     match element.kind() {
         table::EMPTY => sort(tokens[at]) == END,
-        table::TEXT => sort(tokens[at]) == TEXT && sort(tokens[at + 1]) == END,
+        table::TEXT => {
+            at += (sort(tokens[at]) == TEXT) as usize;
+            sort(tokens[at]) == END
+        }
         _ => {
             let mut run = element.run();
             while sort(tokens[at]) == START {

@@ -15,10 +15,10 @@
 //! let used = read(&[1, 11, 2], &mut doc).unwrap();
 //! assert_eq!(doc[..used], [token::start(0), token::text(1), token::end()]);
 //! assert_eq!(table.check(&doc, used), Ok(()));
-//! let fault = table.edit(&mut doc, used, Edit::remove(1)).unwrap_err();
-//! assert_eq!((fault.refusal, fault.place), (Refusal::Content, 0));
-//! let done = table.edit(&mut doc, used, Edit::replace(1, &[token::text(2)])).unwrap();
-//! assert_eq!((done.used, done.change), (3, 0));
+//! let fault = table.edit(&mut doc, used, Edit::insert(1, &[token::text(2)])).unwrap_err();
+//! assert_eq!((fault.refusal, fault.place), (Refusal::Content, 0)); // two texts
+//! let done = table.edit(&mut doc, used, Edit::remove(1)).unwrap();
+//! assert_eq!((done.used, done.change), (2, -1));
 //! ```
 //!
 //! # Another library than the one that this was written for

@@ -19,7 +19,7 @@ use Rattle.paper.specs.Shape.{isElement}
 use Rattle.paper.specs.Trees.{Given, Forest, nil, txt, elem, flatV, flatA, flat}
 use Rattle.paper.specs.Sets.{bit}
 use Rattle.paper.specs.Rules.{Rules, State, start, at, setAt, move, runFrom, ended, ofTable}
-use Rattle.paper.specs.Judgement.{Answer, none-found, orElse, before, attributesGood, contentGood, noText, oneText, named, elementFault, first, startPlace, rootFault, idsOf, refsOf, valueIn, repeated, dangling, keyFault, judge, whole}
+use Rattle.paper.specs.Judgement.{Answer, none-found, orElse, before, attributesGood, contentGood, noText, textOrNone, named, elementFault, first, startPlace, rootFault, idsOf, refsOf, valueIn, repeated, dangling, keyFault, judge, whole}
 use Rattle.paper_laws.specs.Basics.{find-some}
 use Rattle.table_laws.specs.Parts.{table-parts, block-parts, name-below}
 use Rattle.shape_laws.specs.Tree.{shape-tree}
@@ -65,13 +65,13 @@ module _ (R : Rules) (sound : Sound R) where
   declaredTops (txt n f) = declaredTops f
   declaredTops (elem n gs k f) = (n < R .elements) × declaredTops f
 
-  -- no child at all; one text; names that are declared
+  -- no child at all; one text or none; names that are declared
   none-declared : (f : Forest) → null (tops f) ≡ true → declaredTops f
   none-declared nil e = tt
   none-declared (txt n f) e = let z : _≡_ {A = ℕ} 0 1 = cc in absurd (omega arith)
   none-declared (elem n gs k f) e = let z : _≡_ {A = ℕ} 0 1 = cc in absurd (omega arith)
 
-  text-declared : (f : Forest) → oneText (tops f) ≡ true → declaredTops f
+  text-declared : (f : Forest) → textOrNone (tops f) ≡ true → declaredTops f
   text-declared nil e = tt
   text-declared (txt n f) e = none-declared f e
   text-declared (elem n gs k f) e = let z : _≡_ {A = ℕ} 0 1 = cc in absurd (omega arith)
@@ -88,7 +88,7 @@ module _ (R : Rules) (sound : Sound R) where
   content-declared n d f e = go (eqb (R .kind n) 0) (eqb (R .kind n) 1) refl refl e
     where
       go : (a b : Bool) → eqb (R .kind n) 0 ≡ a → eqb (R .kind n) 1 ≡ b
-          → cond a (null (tops f)) (cond b (oneText (tops f)) (noText (tops f) && R .describes n (named (tops f)))) ≡ true → declaredTops f
+          → cond a (null (tops f)) (cond b (textOrNone (tops f)) (noText (tops f) && R .describes n (named (tops f)))) ≡ true → declaredTops f
       go true b p q e = none-declared f e
       go false true p q e = text-declared f e
       go false false p q e =

@@ -34,12 +34,12 @@ fn behind(closes: &[u32], used: usize, i: usize) -> usize
     used
 }
 
-// The children that stand from a place on are so many texts and nothing else.
-fn only_texts(doc: &[u32], used: usize, at: usize, count: u64) -> bool
+// The children that stand from a place on are so many texts or fewer, and nothing else.
+fn only_texts(doc: &[u32], used: usize, at: usize, most: u64) -> bool
     requires { ⌜ (used ≤ length (now doc)) × (at ≤ used) ⌝ }
-    ensures { λ r. ⌜ r ≡ onlyTexts count (kids 0 (drop at (toks (take used (now (doc .entry)))))) ⌝ }
+    ensures { λ r. ⌜ r ≡ onlyTexts most (kids 0 (drop at (toks (take used (now (doc .entry)))))) ⌝ }
 {
-    let mut left = count;
+    let mut left = most;
     let mut i = at;
     while i < used {
         let t = doc[i];
@@ -58,7 +58,7 @@ fn only_texts(doc: &[u32], used: usize, at: usize, count: u64) -> bool
         }
         left -= 1;
     }
-    left == 0
+    true
 }
 
 // "a model has no text and a child sequence that the expression describes": the children that stand from a place on.
@@ -88,7 +88,7 @@ fn modelled(block: &[u64], doc: &[u32], used: usize, closes: &[u32], at: usize) 
     run.may_end(block)
 }
 
-// "content (9)": the children that stand from a place on. Below a model's, the kind is how many texts there must be.
+// "content (9)": the children that stand from a place on. Below a model's, the kind is how many texts there may be.
 pub fn content(table: &[u64], e: usize, doc: &[u32], used: usize, closes: &[u32], at: usize) -> bool
     requires { ⌜ (proper (now table) ≡ true) × (e < getD (now table) 0 0) ⌝ }
     requires { ⌜ Closed (now doc) used (now closes) ⌝ }

@@ -1,6 +1,6 @@
 -- The test of an element's content is passed exactly by valid content. Assumes nothing.
 use mathlib.Core.Path.{_≡_, refl, ap}
-use mathlib.Core.Logic.{_↔_}
+use mathlib.Core.Logic.{_↔_, _⊎_, inl, inr, ⊎-elim}
 use mathlib.Core.Bool.{Bool, true, false, cond, _&&_}
 use mathlib.Core.List.{List, [], _∷_, map, cons≢nil}
 use Prim.Native.Nat.{ℕ, zero, suc}
@@ -14,7 +14,7 @@ use Rattle.paper.specs.Tokens.{kids}
 use Rattle.paper.specs.Schema.{Content, empty, text, model, Schema}
 use Rattle.paper.specs.Table.{kindNumber}
 use Rattle.paper.specs.Rules.{elementAt, describedBy, ofSchema}
-use Rattle.paper.specs.Judgement.{noText, named, oneText, contentGood}
+use Rattle.paper.specs.Judgement.{noText, named, textOrNone, contentGood}
 use Rattle.paper.specs.Validity.{ContentValid}
 use Rattle.basic_laws.specs.Tests.{and-iff}
 use Rattle.content_laws.specs.Matching.{matches-iff}
@@ -47,17 +47,17 @@ null-iff : (k : List Tok) → T (null k) ↔ (k ≡ [])
 null-iff [] = (λ t. refl, λ e. tt)
 null-iff (x ∷ k) = (λ t. absurd t, λ e. absurd (cons≢nil e))
 
-to-text : (k : List Tok) → T (oneText k) → (n : ℕ) × (k ≡ Text n ∷ [])
-to-text [] t = absurd t
-to-text (Text n ∷ k) t = (n, rw (null-iff k .0 t))
+to-text : (k : List Tok) → T (textOrNone k) → (k ≡ []) ⊎ ((n : ℕ) × (k ≡ Text n ∷ []))
+to-text [] t = inl refl
+to-text (Text n ∷ k) t = inr (n, rw (null-iff k .0 t))
 to-text (Start n ∷ k) t = absurd t
 to-text (End ∷ k) t = absurd t
 to-text (Attr n ∷ k) t = absurd t
 to-text (Value n ∷ k) t = absurd t
 to-text (Bad ∷ k) t = absurd t
 
-text-iff : (k : List Tok) → T (oneText k) ↔ ((n : ℕ) × (k ≡ Text n ∷ []))
-text-iff k = (to-text k, λ c. rw (c .1) tt)
+text-iff : (k : List Tok) → T (textOrNone k) ↔ ((k ≡ []) ⊎ ((n : ℕ) × (k ≡ Text n ∷ [])))
+text-iff k = (to-text k, ⊎-elim (λ e. rw e tt) (λ c. rw (c .1) tt))
 
 to-starts : (k : List Tok) → T (all item k) → T (noText k) → k ≡ map Start (named k)
 to-starts [] i t = refl
@@ -83,7 +83,7 @@ model-iff e k i =
 -- ---- the content of an element
 
 by-kind : (c : Content) (k : List Tok) → T (all item k)
-    → T (cond (eqb (kindNumber c) 0) (null k) (cond (eqb (kindNumber c) 1) (oneText k) (noText k && describedBy c (named k)))) ↔ ContentValid c k
+    → T (cond (eqb (kindNumber c) 0) (null k) (cond (eqb (kindNumber c) 1) (textOrNone k) (noText k && describedBy c (named k)))) ↔ ContentValid c k
 by-kind empty k i = null-iff k
 by-kind text k i = text-iff k
 by-kind (model e) k i = model-iff e k i

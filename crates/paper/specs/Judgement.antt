@@ -78,22 +78,22 @@ named (Attr n ∷ k) = named k
 named (Value n ∷ k) = named k
 named (Bad ∷ k) = named k
 
--- "text only has exactly one text and no child (source document 002's rule)"
-abbrev pub oneText : List Tok → Bool
-oneText [] = false
-oneText (Text n ∷ k) = null k
-oneText (Start n ∷ k) = false
-oneText (End ∷ k) = false
-oneText (Attr n ∷ k) = false
-oneText (Value n ∷ k) = false
-oneText (Bad ∷ k) = false
+-- Item 1: "A text-only element now has no text or one, still no child element, and two texts side by side stay a content fault."
+abbrev pub textOrNone : List Tok → Bool
+textOrNone [] = true
+textOrNone (Text n ∷ k) = null k
+textOrNone (Start n ∷ k) = false
+textOrNone (End ∷ k) = false
+textOrNone (Attr n ∷ k) = false
+textOrNone (Value n ∷ k) = false
+textOrNone (Bad ∷ k) = false
 
 -- "content (9): EMPTY has no child and no text, text only [..], a model has no text and a child sequence that the expression
 -- describes"
 unfoldable pub contentGood : Rules → ℕ → List Tok → Bool
 contentGood R e k =
     cond (eqb (R .kind e) 0) (null k)
-    (cond (eqb (R .kind e) 1) (oneText k)
+    (cond (eqb (R .kind e) 1) (textOrNone k)
     (noText k && R .describes e (named k)))
 
 -- ---- the elements

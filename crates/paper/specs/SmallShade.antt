@@ -1,4 +1,5 @@
--- "The small shade": the cases marked P and the four models, as one list, and one statement over it. Assumes nothing.
+-- "The small shade": the cases marked P and the four models, as one list, and one statement over it. Item 1: "In document 01, remove
+-- at 7 becomes done with length 14." Assumes nothing.
 use mathlib.Core.Path.{_≡_, refl}
 use mathlib.Core.Bool.{Bool, true, false, _&&_}
 use mathlib.Core.List.{List, [], _∷_, _++_}
@@ -52,7 +53,7 @@ cases =
     checks 0 0
     ∷ edits 2 3 [] 9 0 15
     ∷ edits 2 10 [] 0 0 11
-    ∷ edits 2 7 [] 9 6 15
+    ∷ edits 2 7 [] 0 0 14
     ∷ edits 1 10 (9 ∷ 12 ∷ 165 ∷ 2 ∷ []) 11 12 15
     ∷ edits 1 10 (9 ∷ 12 ∷ 173 ∷ 2 ∷ []) 0 0 19
     ∷ edits 1 3 (25 ∷ 20 ∷ 165 ∷ 2 ∷ []) 9 0 15

@@ -24,11 +24,11 @@ pub record AttributesValid (x : Element) (h : List Tok) : Type 0 where
   pub required : (a : ℕ) → T (has isRequired x a) → (u : List Tok) × (r : List Tok) × (h ≡ u ++ Attr a ∷ r)
   pub single : (u r : List Tok) (a : ℕ) → h ≡ u ++ Attr a ∷ r → T (has (ofKind 3) x a) ⊎ (values r ≡ 1)
 
--- "content (9): EMPTY has no child and no text, text only has exactly one text and no child [..], a model has no text and a child
--- sequence that the expression describes". k: the children and texts
+-- "content (9): EMPTY has no child and no text, text only [..], a model has no text and a child sequence that the expression
+-- describes". Item 1: "A text-only element now has no text or one, still no child element". k: the children and texts
 abbrev pub ContentValid : Content → List Tok → Type 0
 ContentValid empty k = k ≡ []
-ContentValid text k = (n : ℕ) × (k ≡ Text n ∷ [])
+ContentValid text k = (k ≡ []) ⊎ ((n : ℕ) × (k ≡ Text n ∷ []))
 ContentValid (model e) k = (w : List ℕ) × (k ≡ map Start w) × Matches e w
 
 -- "at each: name below E (7); attributes (8) [..]; content (9)"

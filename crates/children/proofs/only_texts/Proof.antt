@@ -1,16 +1,15 @@
 -- `children::only_texts` meets its contract. The loop's invariant is `Reading`; the measure is how many tokens are left. Assumes nothing.
 use Prim.Native.Nat.{_-_}
-use mathlib.Core.Logic.{⊎-elim}
 use borrow.Author.Needs.{needs}
 use Rattle.children.specs.Texts.{Reading, reading-begin, reading-out, reading-end, reading-start, reading-other, reading-more, reading-text}
 use Rattle.children.proofs.only_texts.Statement.{statement}
 use Rattle.children.proofs.only_texts.Tie as tie
 
 abbrev Inv-loop : tie.InvT-loop
-Inv-loop doc used at count left₀ i₀ left i = Reading doc used at count i left
+Inv-loop doc used at most left₀ i₀ left i = Reading doc used at most i left
 
 abbrev μ-loop : tie.MeasureT-loop
-μ-loop doc used at count left₀ i₀ left i = used - i
+μ-loop doc used at most left₀ i₀ left i = used - i
 
 loop-holds : tie.Need-loop-holds Inv-loop μ-loop
 loop-holds c = search reading-begin
@@ -55,7 +54,10 @@ loop-again-2 : tie.Need-loop-again-2 Inv-loop μ-loop
 loop-again-2 c = search reading-text
 
 returns-3 : tie.Need-returns-3 Inv-loop μ-loop
-returns-3 c = ⊎-elim (λ w. search reading-out) (λ w. search reading-end) (c .loop-test .came)
+returns-3 c = search reading-out
+
+returns-4 : tie.Need-returns-4 Inv-loop μ-loop
+returns-4 c = search reading-end
 
 pub only-texts-spec : {M : Type 1} → statement M
 only-texts-spec =
@@ -77,4 +79,5 @@ only-texts-spec =
     sub-left
     loop-less-2
     loop-again-2
-    returns-3)
+    returns-3
+    returns-4)
