@@ -4,7 +4,7 @@
 --  1 broken number             6 operation or place         11 ID twice
 --  2 schema value, form, limit 7 name                       12 reference to none
 --  3 ambiguous model           8 attributes                 13 table
---  4 no shape, or bad piece    9 content
+--  4 no shape, or bad piece    9 content                    16 kind not compared
 use mathlib.Core.List.{List, [], _∷_}
 use Prim.Native.Nat.{ℕ}
 use lib.Dec.{T}
@@ -27,6 +27,10 @@ checkAnswers = 0 ∷ 4 ∷ 8 ∷ 9 ∷ 10 ∷ 11 ∷ 12 ∷ 13 ∷ []
 -- "an edit under or at an undeclared element of an invalid document does"
 abbrev pub editAnswers : List ℕ
 editAnswers = 0 ∷ 4 ∷ 5 ∷ 6 ∷ 7 ∷ 8 ∷ 9 ∷ 10 ∷ 11 ∷ 12 ∷ 13 ∷ []
+
+-- Item 12: "Refusals in order: 13, old table first; element not below both E is 6; new 16, [..]; buffer too short is 5."
+abbrev pub compareAnswers : List ℕ
+compareAnswers = 0 ∷ 5 ∷ 6 ∷ 13 ∷ 16 ∷ []
 
 -- an answer is one of those numbers; "The place is 0 except for 7 to 12."
 pub record Answers (numbers : List ℕ) (number place : ℕ) : Type 0 where

@@ -1,4 +1,4 @@
--- The five calls, each by the outcome that it has for what it is given: an outcome is the answer and every place of lent memory
+-- The six calls, each by the outcome that it has for what it is given: an outcome is the answer and every place of lent memory
 -- after the call. The contracts of the calls are written with these names. Assumes nothing.
 use mathlib.Core.Path.{_≡_}
 use mathlib.Core.List.{List}
@@ -7,6 +7,7 @@ use Rattle.paper.specs.Files.{Counted, read, write}
 use Rattle.paper.specs.Table.{translate}
 use Rattle.paper.specs.Judgement.{Answer, check}
 use Rattle.paper.specs.Edits.{Request, Outcome, edit}
+use Rattle.paper.specs.Inclusion.{Compared, compare}
 
 -- the reader: number, count, and the token buffer
 abbrev pub Reads : (file buffer : List ℕ) → Counted → Type 0
@@ -27,3 +28,7 @@ Checks table buffer used o = o ≡ check table buffer used
 -- the edit: number, place, used length, change in length, and the buffer
 abbrev pub Performs : (table buffer : List ℕ) → (used : ℕ) → Request → Outcome → Type 0
 Performs table buffer used q o = o ≡ edit table buffer used q
+
+-- the comparison: number, 1 for yes, length of the sequence that is lost, and the sequence buffer
+abbrev pub Compares : (old new : List ℕ) → (element : ℕ) → (buffer : List ℕ) → Compared → Type 0
+Compares old new element buffer o = o ≡ compare old new element buffer

@@ -4,12 +4,14 @@ use mathlib.Core.Path.{_≡_, refl}
 use mathlib.Core.List.{List, [], _∷_, map}
 use Prim.Native.Nat.{ℕ}
 use lib.ListN.{length, replicate}
+use Rattle.paper.specs.Basics.{sequencePlaces}
 use Rattle.paper.specs.Files.{fileOf, read, write}
 use Rattle.paper.specs.Schema.{Schema, Parsed, stop, ok, schemaOf}
 use Rattle.paper.specs.Table.{tableLength, tableOf, translate}
 use Rattle.paper.specs.Judgement.{check}
 use Rattle.paper.specs.Edits.{Request, edit}
-use Rattle.paper.specs.Answers.{readerAnswers, writerAnswers, translatorAnswers, checkAnswers, editAnswers}
+use Rattle.paper.specs.Inclusion.{compare}
+use Rattle.paper.specs.Answers.{readerAnswers, writerAnswers, translatorAnswers, checkAnswers, editAnswers, compareAnswers}
 use Rattle.paper.specs.Open.{all-open}
 use Rattle.paper.specs.SmallShade.{shadeWith, shade, small}
 
@@ -89,3 +91,15 @@ requests =
 pub edit-gives : map (λ (x : Asked). edit (x .table) (x .doc) (length (x .doc)) (x .request) .number) requests ≡ editAnswers
 unfolding all-open
 edit-gives = refl
+
+-- old table, new table, element and sequence buffer: the shade with use* for its model, which loses a panel; no buffer; no such
+-- element; no old table; the row, which is text
+abbrev pub comparisons : List (List ℕ × List ℕ × ℕ × List ℕ)
+comparisons =
+    let new : List ℕ = tableIn (schemaOf (fileOf (shadeWith (3 ∷ 8 ∷ [])))) in
+    let room : List ℕ = replicate sequencePlaces 0 in
+    (table, new, 0, room) ∷ (table, new, 0, []) ∷ (table, new, 4, room) ∷ ([], new, 0, room) ∷ (table, new, 2, room) ∷ []
+
+pub compare-gives : map (λ (i : List ℕ × List ℕ × ℕ × List ℕ). compare (i .0) (i .1) (i .2) (i .3) .number) comparisons ≡ compareAnswers
+unfolding all-open
+compare-gives = refl

@@ -23,6 +23,8 @@ pub mod Validity
 -- "The five edits"
 pub mod Edits
 pub mod TreeEdits
+-- Item 12: an element's content compared
+pub mod Inclusion
 -- "Answer numbers": which numbers a call gives, and what each call does
 pub mod Answers
 pub mod Calls
@@ -31,3 +33,5 @@ pub mod Program
 pub mod Open
 pub mod SmallShade
 pub mod Given
+-- Item 12, by computing
+pub mod InclusionExamples

@@ -30,6 +30,9 @@ pub const MOST_NAMES: usize = 64;
 
 pub const MOST_ATTRIBUTES: usize = 64;
 
+// "The sequence buffer has at least 4,290 places."
+pub const SEQUENCE_PLACES: usize = 4290;
+
 // The table: its length, a block's length, where the first block begins, and where the parts of a block begin.
 pub const TABLE_WORDS: usize = 6626;
 
@@ -146,6 +149,8 @@ pub const ID_TWICE: u32 = 11;
 pub const NO_ID: u32 = 12;
 
 pub const TABLE: u32 = 13;
+
+pub const NOT_COMPARED: u32 = 16;
 
 // ---- Tokens
 

@@ -1,0 +1,7 @@
+-- The search through pairs as the code makes it: where it stands (Going), its turns (Turn, Try), and what the call answers (Outcome,
+-- Call).
+pub mod Going
+pub mod Turn
+pub mod Try
+pub mod Outcome
+pub mod Call
