@@ -1,7 +1,8 @@
 /* shrikemuff.h: small XML documents, held as tokens, kept to their schema.
  *
- * Five calls: a document file is read into tokens and written from them; a schema file is translated to a table; a document is checked
- * by a table; a document is edited, and stays as it was unless the edited document keeps to the schema. A sixth tells the library's version.
+ * Six calls: a document file is read into tokens and written from them; a schema file is translated to a table; a document is checked
+ * by a table; a document is edited, and stays as it was unless the edited document keeps to the schema; two tables are compared, whether
+ * the new one takes what the old one takes in an element. A seventh tells the library's version.
  * Link libshrikemuff.a. ISO C99, and C++; Linux on x86-64.
  *
  * What each call answers, and what it leaves in every place of the memory lent to it, is proved of the source that the library is compiled
@@ -29,6 +30,7 @@
  *     shrike_translate                under 104,000
  *     shrike_check                    under 100,000
  *     shrike_edit                     under 133,000
+ *     shrike_compare                  under 57,000
  *
  * So a thread keeps 160 KiB free. (A main thread has 8 MiB by custom. Threads of musl have 128 KiB unless they ask for more.) A large
  * frame is touched a page at a time, from the top: where there is too little, the guard page is met and nothing is overwritten.
@@ -78,7 +80,7 @@
  *
  * TABLES
  *
- * A table is a schema as the check and the edits use it; a host need not look into it. Word 0 is the number of elements E, word 1 the root.
+ * A table is a schema as the check, the edits and the comparison use it; a host need not look into it. Word 0 is the number of elements E, word 1 the root.
  * From SHRIKE_BLOCKS_AT on stands a block of SHRIKE_BLOCK_WORDS words for each of 48 elements. It holds, each from its SHRIKE_.._AT on:
  * the kind; the sets of attributes that are allowed, required, ID, IDREF and IDREFS, bit k for attribute k; the number n of names that
  * occur in the model; 1 if no child at all matches, else 0; the sets of occurrences that can be first, and last, bit k for occurrence k,
@@ -88,21 +90,22 @@
  *
  * ANSWERS
  *
- *                                                   read  write  translate  check  edit
- *      0  valid, or done                              *     *        *        *     *
+ *                                                   read  write  translate  check  edit  compare
+ *      0  valid, or done                              *     *        *        *     *      *
  *      1  broken number                               *              *
  *      2  schema value, form or limit                                *
  *      3  ambiguous model                                            *
  *      4  no shape, or bad piece                            *                 *     *
- *      5  too large, or no room                       *     *                       *
- *      6  operation or place                                                        *
+ *      5  too large, or no room                       *     *                       *      *
+ *      6  operation, place or element                                               *      *
  *      7  name: the element is not declared                                         *
  *      8  attributes                                                          *     *
  *      9  content                                                             *     *
  *     10  root: not the schema's                                              *     *
  *     11  ID twice                                                            *     *
  *     12  reference to no ID                                                  *     *
- *     13  table: not of 6,626 words, or not proper                   *        *     *
+ *     13  table: not of 6,626 words, or not proper                   *        *     *      *
+ *     16  kind not compared                                                                *
  *
  * A call gives the first that applies, in the order that stands with it. shrike_words(number) says an answer in words.
  *
@@ -121,7 +124,7 @@ extern "C" {
 
 /* This header's version. */
 #define SHRIKE_VERSION_MAJOR 0
-#define SHRIKE_VERSION_MINOR 1
+#define SHRIKE_VERSION_MINOR 2
 #define SHRIKE_VERSION_PATCH 0
 #define SHRIKE_VERSION (SHRIKE_VERSION_MAJOR * 1000000 + SHRIKE_VERSION_MINOR * 1000 + SHRIKE_VERSION_PATCH)
 
@@ -208,6 +211,11 @@ enum {
     SHRIKE_FOLLOW_AT = 74
 };
 
+/* The places of shrike_compare's sequence buffer, at least (of 32 bits: 17,160 bytes). A sequence that is lost has fewer names. */
+enum {
+    SHRIKE_SEQUENCE_PLACES = 4290
+};
+
 /* Answer numbers. */
 enum {
     SHRIKE_DONE = 0,
@@ -223,7 +231,8 @@ enum {
     SHRIKE_ROOT = 10,
     SHRIKE_ID_TWICE = 11,
     SHRIKE_NO_ID = 12,
-    SHRIKE_TABLE = 13
+    SHRIKE_TABLE = 13,
+    SHRIKE_NOT_COMPARED = 16
 };
 
 /* Operations. */
@@ -252,6 +261,7 @@ static inline const char *shrike_words(uint32_t number) {
     case SHRIKE_ID_TWICE: return "ID twice";
     case SHRIKE_NO_ID: return "reference to none";
     case SHRIKE_TABLE: return "table";
+    case SHRIKE_NOT_COMPARED: return "kind not compared";
     default: return "unknown answer";
     }
 }
@@ -278,6 +288,12 @@ typedef struct {
     uint64_t used;
     int32_t change;
 } shrike_answer;
+
+/* The answer of shrike_compare. takes_all: 1 if the new table takes all that the old one takes, else 0. length: the names of the sequence
+ * that is lost; 0 if none is. A refusal gives 0 for both. */
+typedef struct {
+    uint32_t number, takes_all, length;
+} shrike_compared;
 
 /* The library's version: major * 1,000,000 + minor * 1,000 + patch. */
 uint32_t shrike_version(void);
@@ -335,6 +351,21 @@ shrike_verdict shrike_check(const uint64_t *table, size_t words, const uint32_t 
  * parent (for set and drop the element itself) and all elements of the piece. Places are those of the edited document. */
 shrike_answer shrike_edit(const uint64_t *table, size_t words, uint32_t *doc, size_t room, uint64_t used, uint32_t operation,
                           uint64_t place, const uint32_t *piece, size_t n);
+
+/* Compares the content of an element in two tables: does the new one take every sequence of children that the old one takes?
+ *
+ * If it does, takes_all is 1, length is 0 and nothing is written. If not, takes_all is 0, and the first `length` places of `sequence` hold
+ * the shortest sequence that would be lost, as numbers of elements; of several that are as short, the lowest by the numbers from the left.
+ * Length 0 with takes_all 0 says that having no child at all is lost. The places behind keep their contents.
+ *
+ * The numbers of elements are those of the old table, and are taken to mean the same in both. Only the element's own content is compared,
+ * not that of its children, and not its attributes. An EMPTY element takes the sequence of no children alone. A name that the new table
+ * does not have, it does not take.
+ *
+ * Order: the tables, the old one first (13); `element` not below the number of elements of both (6); an element that is neither EMPTY nor of
+ * a content model, in either table (16); `room` below SHRIKE_SEQUENCE_PLACES (5), also where nothing would be written. */
+shrike_compared shrike_compare(const uint64_t *old_table, size_t old_words, const uint64_t *new_table, size_t new_words, uint32_t element,
+                               uint32_t *sequence, size_t room);
 
 #ifdef __cplusplus
 }

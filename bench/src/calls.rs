@@ -1,4 +1,4 @@
-//! The five calls and their answers, as every contender of the benchmark offers them.
+//! The six calls and their answers, as every contender of the benchmark offers them.
 
 #[derive(Clone, Copy, Debug, PartialEq, Eq)]
 pub struct Count {
@@ -18,6 +18,13 @@ pub struct Answer {
     pub place: u32,
     pub used: u64,
     pub change: i32,
+}
+
+#[derive(Clone, Copy, Debug, PartialEq, Eq)]
+pub struct Compared {
+    pub number: u32,
+    pub takes_all: u32,
+    pub length: u32,
 }
 
 pub const INSERT: u32 = 1;
@@ -42,4 +49,5 @@ pub trait Calls {
     fn translate(&self, file: &[u8], table: &mut [u64]) -> u32;
     fn check(&self, table: &[u64], buffer: &[u32], used: u64) -> Verdict;
     fn edit(&self, table: &[u64], buffer: &mut [u32], used: u64, operation: u32, place: u64, piece: &[u32]) -> Answer;
+    fn compare(&self, old: &[u64], new: &[u64], element: u32, sequence: &mut [u32]) -> Compared;
 }

@@ -1,7 +1,7 @@
 //! What is timed: inputs, how each contender runs them, and whether the contenders agree.
 
-use bench::calls::{Answer, Calls, Count, Edit, Verdict};
-use bench::plain::WORDS;
+use bench::calls::{Answer, Calls, Compared, Count, Edit, Verdict};
+use bench::plain::{PLACES, WORDS};
 use std::rc::Rc;
 
 #[cfg(feature = "libxml2")]
@@ -46,6 +46,12 @@ pub enum Input {
     Translate {
         file: Vec<u8>,
     },
+    /// Element 0 of two tables: the length of what is lost, if anything is.
+    Compare {
+        old: Vec<u64>,
+        new: Vec<u64>,
+        lost: Option<usize>,
+    },
     /// From the files of schema and document to a judged document: translate, read and check; `text` is both as XML.
     Load {
         schema: Vec<u8>,
@@ -62,6 +68,7 @@ struct Outcome {
     counts: Vec<Count>,
     verdicts: Vec<Verdict>,
     answers: Vec<Answer>,
+    compared: Vec<Compared>,
     tokens: Vec<Vec<u32>>,
     bytes: Vec<u8>,
     table: Vec<u64>,
@@ -143,6 +150,12 @@ impl Input {
                 outcome.table = lent;
                 outcome.numbers[0] == 0
             }
+            Input::Compare { old, new, lost } => {
+                let mut lent = vec![7; PLACES + 3];
+                outcome.compared.push(calls.compare(old, new, 0, &mut lent));
+                outcome.tokens.push(lent);
+                outcome.compared[0] == compared(*lost)
+            }
             Input::Load { schema, file, tokens, .. } => {
                 let (mut table, mut buffer) = (vec![7; WORDS], vec![7; *tokens]);
                 outcome.verdicts.push(load(calls, schema, file, &mut table, &mut buffer));
@@ -193,6 +206,14 @@ impl Input {
                 let mut lent = vec![0; WORDS];
                 Box::new(move |count| repeat(count, || assert_eq!(calls.translate(from_outside(&file[..]), &mut lent), 0)))
             }
+            Input::Compare { old, new, lost } => {
+                let mut lent = vec![0; PLACES];
+                Box::new(move |count| {
+                    repeat(count, || {
+                        assert_eq!(calls.compare(from_outside(&old[..]), from_outside(&new[..]), 0, &mut lent), compared(*lost))
+                    })
+                })
+            }
             Input::Load { schema, file, tokens, .. } => {
                 let (mut table, mut buffer) = (vec![0; WORDS], vec![0; *tokens]);
                 Box::new(move |count| {
@@ -227,9 +248,13 @@ impl Input {
 }
 
 impl Outcome {
-    fn summary(&self) -> (&[u32], &[Count], &[Verdict], &[Answer]) {
-        (&self.numbers, &self.counts, &self.verdicts, &self.answers)
+    fn summary(&self) -> (&[u32], &[Count], &[Verdict], &[Answer], &[Compared]) {
+        (&self.numbers, &self.counts, &self.verdicts, &self.answers, &self.compared)
     }
+}
+
+fn compared(lost: Option<usize>) -> Compared {
+    Compared { number: 0, takes_all: lost.is_none() as u32, length: lost.unwrap_or(0) as u32 }
 }
 
 fn load(calls: &dyn Calls, schema: &[u8], file: &[u8], table: &mut [u64], buffer: &mut [u32]) -> Verdict {

@@ -2,7 +2,7 @@
 
 use bench::calls::{Calls, Edit};
 use bench::documents::{file, Dice, Mix, MIXES};
-use bench::plain::WORDS;
+use bench::plain::{PLACES, WORDS};
 
 const TOKENS: usize = 420;
 
@@ -13,7 +13,7 @@ pub fn agree(contenders: &[&dyn Calls], count: u32) -> Result<u64, String> {
         let mut dice = Dice::new(k as u64 + 7);
         for round in 0..count {
             agree_once(contenders, mix, &mut dice).map_err(|what| format!("{}, round {}: {}", mix.name(), round, what))?;
-            calls += 5;
+            calls += 6;
         }
     }
     Ok(calls)
@@ -42,6 +42,18 @@ fn agree_once(contenders: &[&dyn Calls], mix: Mix, dice: &mut Dice) -> Result<()
     same("translate", contenders, |calls| {
         let mut lent = vec![7; WORDS];
         (calls.translate(&schema, &mut lent), lent)
+    })?;
+
+    let other = {
+        let mut table = vec![0; WORDS];
+        contenders[0].translate(&file(&MIXES[dice.below(MIXES.len() as u32) as usize].schema()), &mut table);
+        table
+    };
+    let element = dice.below(6);
+    let room = PLACES + 1 - dice.below(16) as usize / 14 * 2;
+    same("compare", contenders, |calls| {
+        let mut lent = vec![7; room];
+        (calls.compare(&table, &other, element, &mut lent), lent)
     })?;
 
     let mut tokens = mix.document(TOKENS);

@@ -252,6 +252,23 @@ pub fn dense_schema() -> Vec<u32> {
     schema
 }
 
+/// The small shade with (panel, panel?, use*) in place of (panel+, use*).
+pub fn other_small_shade() -> Vec<u32> {
+    let mut schema = SMALL_SHADE.to_vec();
+    schema.splice(3..9, [7, 0, 6, 0, 2, 6, 3, 8]);
+    schema
+}
+
+/// 48 elements, of which element 0 has the model (0, 0, ..)*, its name so many times, and the others are empty.
+pub fn cycle(count: usize) -> Vec<u32> {
+    let mut schema = vec![48, 0, 2, 2 * count as u32, 3];
+    schema.extend(vec![0; count - 1]);
+    schema.extend(vec![5; count]);
+    schema.push(0);
+    schema.extend([0; 2 * 47]);
+    schema
+}
+
 /// The numbers as a file of seven-bit groups.
 pub fn file(numbers: &[u32]) -> Vec<u8> {
     let mut bytes = Vec::new();

@@ -26,6 +26,8 @@ const EDIT_TOKENS: usize = 8184;
 const ROOM: usize = 8192;
 /// The sizes of the plot beside those of the table.
 const MORE_SIZES: [usize; 3] = [500, 2000, 6000];
+/// Where a table has the last occurrences of element 0.
+const LAST_OF_0: usize = 2 + 9;
 /// Rounds of calls by chance for each mix.
 const ROUNDS: u32 = 2000;
 
@@ -196,6 +198,7 @@ fn cases_of_files() -> Vec<Case> {
     cases.push(translate("schema at the limits", &documents::dense_schema()));
     let dense = Input::Check { table: Rc::new(table_of(&documents::dense_schema())), buffer: vec![0; 2], used: 0, number: 4, text: None };
     cases.push(Case::new(Section::File, "schema at the limits", "test of the table alone", 0, dense));
+    cases.extend(comparisons());
     let mix = Mix::FewIds;
     for size in SIZES {
         let tokens = mix.document(size);
@@ -218,6 +221,26 @@ fn cases_of_files() -> Vec<Case> {
         }
     }
     cases
+}
+
+/// Two cycles of 64 and 63 occurrences meet in 4,033 pairs. The new one may end everywhere, or everywhere but where both come round.
+fn comparisons() -> Vec<Case> {
+    let (small, other) = (table_of(&documents::SMALL_SHADE), table_of(&documents::other_small_shade()));
+    let (old, cycle, dense) = (table_of(&documents::cycle(64)), table_of(&documents::cycle(63)), table_of(&documents::dense_schema()));
+    let ending_at = |last: u64| {
+        let mut new = cycle.clone();
+        new[LAST_OF_0] = last;
+        new
+    };
+    let compare = |name, old: &[u64], new: Vec<u64>, lost| {
+        Case::new(Section::File, name, "compare", 0, Input::Compare { old: old.to_vec(), new, lost })
+    };
+    vec![
+        compare("small shade, 3 names lost", &small, other, Some(3)),
+        compare("schema at the limits, with itself", &dense, dense.clone(), None),
+        compare("4,033 pairs, nothing lost", &old, ending_at(u64::MAX >> 1), None),
+        compare("4,033 pairs, 4,032 names lost", &old, ending_at(u64::MAX >> 2), Some(4032)),
+    ]
 }
 
 /// Times all cases of a group by all who can run them, taking turns.
@@ -251,7 +274,7 @@ fn method(plan: &Plan, report: &Report, inputs: usize, by_chance: u64) -> String
     }
     text += &format!(
         "\n## How it was measured\n\n\
-         - Core: the archive's five calls through C. Plain: a straightforward safe Rust version of the same calls with the same promises \
+         - Core: the archive's six calls through C. Plain: a straightforward safe Rust version of the same calls with the same promises \
          (`bench/src/plain`), IDs compared in pairs; the second one marks them in a field of 65,536 bits and is the same otherwise. \
          Both are compiled with optimisation 3; the archive is not optimised across its border.\n\
          - Before timing, core and both plain versions gave the same answers and left the same memory on all {} inputs and on {} calls \

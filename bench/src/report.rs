@@ -174,7 +174,7 @@ impl Report<'_> {
         text.push_str("## Files\n\n");
         text.push_str("Microseconds a call. Load is translate, read and check, from the two files to a judged document; libxml2: ");
         text.push_str("the same schema and document as one XML text, parsed to a tree and validated, tree freed. ");
-        text.push_str("Read, write and translate have no counterpart there: its texts are other files.\n\n");
+        text.push_str("Read, write, translate and compare have no counterpart there.\n\n");
         text.push_str("| call | input | core | plain | plain, bit field | libxml2 | core/plain | core/bit field | libxml2/core | within 1.5 × plain |\n");
         text.push_str("|---|---|--:|--:|--:|--:|--:|--:|--:|---|\n");
         for row in self.section(Section::File) {

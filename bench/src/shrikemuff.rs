@@ -1,7 +1,7 @@
 //! The core, through its C interface.
 
 use ::shrikemuff::raw;
-use bench::calls::{Answer, Calls, Count, Verdict};
+use bench::calls::{Answer, Calls, Compared, Count, Verdict};
 
 pub struct Core;
 
@@ -34,5 +34,12 @@ impl Calls for Core {
         let (table, doc, piece) = (table.as_ptr(), buffer.as_mut_ptr(), piece.as_ptr());
         let said = unsafe { raw::shrike_edit(table, words, doc, room, used, operation, place, piece, n) };
         Answer { number: said.number, place: said.place, used: said.used, change: said.change }
+    }
+
+    fn compare(&self, old: &[u64], new: &[u64], element: u32, sequence: &mut [u32]) -> Compared {
+        let (old_words, new_words, room) = (old.len(), new.len(), sequence.len());
+        let (old, new, sequence) = (old.as_ptr(), new.as_ptr(), sequence.as_mut_ptr());
+        let said = unsafe { raw::shrike_compare(old, old_words, new, new_words, element, sequence, room) };
+        Compared { number: said.number, takes_all: said.takes_all, length: said.length }
     }
 }

@@ -16,6 +16,10 @@ HOLDS(answer_number_at_0, offsetof(shrike_answer, number) == 0);
 HOLDS(answer_place_at_4, offsetof(shrike_answer, place) == 4);
 HOLDS(answer_used_at_8, offsetof(shrike_answer, used) == 8);
 HOLDS(answer_change_at_16, offsetof(shrike_answer, change) == 16);
+HOLDS(compared_is_12, sizeof(shrike_compared) == 12);
+HOLDS(compared_number_at_0, offsetof(shrike_compared, number) == 0);
+HOLDS(compared_takes_all_at_4, offsetof(shrike_compared, takes_all) == 4);
+HOLDS(compared_length_at_8, offsetof(shrike_compared, length) == 8);
 HOLDS(lengths_have_64_bits, sizeof(size_t) == 8);
 
 static shrike_count (*const read_file)(const uint8_t *, size_t, uint32_t *, size_t) = shrike_read;
@@ -24,6 +28,7 @@ static uint32_t (*const translate)(const uint8_t *, size_t, uint64_t *, size_t) 
 static shrike_verdict (*const check)(const uint64_t *, size_t, const uint32_t *, size_t, uint64_t) = shrike_check;
 static shrike_answer (*const edit)(const uint64_t *, size_t, uint32_t *, size_t, uint64_t, uint32_t, uint64_t, const uint32_t *,
                                    size_t) = shrike_edit;
+static shrike_compared (*const compare)(const uint64_t *, size_t, const uint64_t *, size_t, uint32_t, uint32_t *, size_t) = shrike_compare;
 
 /* ---- the small shade */
 
@@ -168,6 +173,53 @@ static void edits(void) {
     BYTES(table, before, sizeof table);
 }
 
+/* ---- two tables: the small shade, and with (use, use, panel)? in place of (panel+, use*) */
+
+#define SEQUENCE 4290
+static uint64_t new_table[TABLE];
+static uint32_t sequence[SEQUENCE + 1], sequence_due[SEQUENCE + 1];
+
+static void comparisons(void) {
+    static const uint8_t new_schema[] = {4, 0, 2, 6, 2, 0, 8, 0, 8, 6, 1, 0, 0, 0, 2, 2, 3, 7, 1, 1, 1, 0, 1, 0, 0, 1, 2, 2, 0};
+    static const uint8_t small[] = {1, 0, 0, 0};
+    uint64_t one[TABLE];
+    for (size_t i = 0; i <= SEQUENCE; i++) sequence[i] = sequence_due[i] = FILLED;
+    SAME("number", translate(new_schema, sizeof new_schema, new_table, TABLE), 0);
+    SAME("number", translate(small, sizeof small, one, TABLE), 0);
+    /* yes, and refusals: nothing is written */
+    COMPARED(compare(table, TABLE, table, TABLE, 0, sequence, SEQUENCE), 0, 1, 0);
+    COMPARED(compare(table, TABLE, new_table, TABLE, 3, sequence, SEQUENCE), 0, 1, 0);
+    COMPARED(compare(table, TABLE - 1, new_table, TABLE, 0, sequence, SEQUENCE), 13, 0, 0);
+    COMPARED(compare(table, TABLE, new_table, TABLE - 1, 0, sequence, SEQUENCE), 13, 0, 0);
+    COMPARED(compare(NULL, 0, NULL, 0, 0, NULL, 0), 13, 0, 0);
+    COMPARED(compare(table, TABLE, new_table, TABLE, 4, sequence, SEQUENCE), 6, 0, 0);
+    COMPARED(compare(table, TABLE, one, TABLE, 1, sequence, SEQUENCE), 6, 0, 0);
+    COMPARED(compare(one, TABLE, table, TABLE, 1, sequence, SEQUENCE), 6, 0, 0);
+    COMPARED(compare(table, TABLE, new_table, TABLE, UINT32_MAX, NULL, 0), 6, 0, 0);
+    COMPARED(compare(table, TABLE, new_table, TABLE, 2, NULL, 0), 16, 0, 0);
+    COMPARED(compare(table, TABLE, new_table, TABLE, 0, sequence, SEQUENCE - 1), 5, 0, 0);
+    COMPARED(compare(table, TABLE, table, TABLE, 0, NULL, 0), 5, 0, 0);
+    /* no child at all */
+    COMPARED(compare(new_table, TABLE, table, TABLE, 0, sequence, SEQUENCE), 0, 0, 0);
+    COMPARED(compare(one, TABLE, table, TABLE, 0, sequence, SEQUENCE), 0, 0, 0);
+    BYTES(sequence, sequence_due, sizeof sequence);
+    /* a panel */
+    COMPARED(compare(table, TABLE, new_table, TABLE, 0, sequence, SEQUENCE), 0, 0, 1);
+    sequence_due[0] = 1;
+    BYTES(sequence, sequence_due, sizeof sequence);
+    /* use, use, panel: from what takes it to what does not */
+    static const uint8_t opened[] = {4, 0, 2, 4, 3, 1, 8, 6, 1, 0, 0, 0, 2, 2, 3, 7, 1, 1, 1, 0, 1, 0, 0, 1, 2, 2, 0};
+    static const uint8_t closed[] = {4, 0, 2, 4, 2, 0, 8, 8, 1, 0, 0, 0, 2, 2, 3, 7, 1, 1, 1, 0, 1, 0, 0, 1, 2, 2, 0};
+    static uint64_t opened_table[TABLE], closed_table[TABLE];
+    SAME("number", translate(opened, sizeof opened, opened_table, TABLE), 0);
+    SAME("number", translate(closed, sizeof closed, closed_table, TABLE), 0);
+    COMPARED(compare(new_table, TABLE, opened_table, TABLE, 0, sequence, SEQUENCE), 0, 1, 0);
+    COMPARED(compare(new_table, TABLE, closed_table, TABLE, 0, sequence, SEQUENCE + 1), 0, 0, 3);
+    sequence_due[0] = 3, sequence_due[1] = 3, sequence_due[2] = 1;
+    BYTES(sequence, sequence_due, sizeof sequence);
+    BYTES(table, before, sizeof table);
+}
+
 /* Lengths over 2^32: what is lent beyond the first page must not be touched. */
 static int lengths(void) {
     uint32_t *tokens = (uint32_t *)reserve((OVER + 1) * sizeof *tokens, 1);
@@ -184,6 +236,9 @@ static int lengths(void) {
     JUDGED(check(words, OVER + TABLE, tokens, OVER, SHADE), 13, 0);
     ANSWERED(edit(table, TABLE, tokens, OVER, SHADE, 2, 10, NULL, 0), 0, 0, 11, -4);
     ANSWERED(edit(words, OVER + TABLE, tokens, OVER, 11, 2, 10, NULL, 0), 13, 0, 11, 0);
+    COMPARED(compare(words, OVER + TABLE, table, TABLE, 0, tokens, OVER), 13, 0, 0);
+    COMPARED(compare(table, TABLE, words, OVER + TABLE, 0, tokens, OVER), 13, 0, 0);
+    COMPARED(compare(table, TABLE, new_table, TABLE, 0, tokens, OVER), 0, 0, 1);
     uint32_t doc[PLACES];
     fill(doc, shade, SHADE);
     tokens[0] = 9;
@@ -197,6 +252,7 @@ int main(void) {
     translators();
     checks();
     edits();
+    comparisons();
     if (!lengths()) return 1;
     return told();
 }

@@ -53,9 +53,16 @@ static inline void answered(int line, shrike_answer r, uint32_t number, uint32_t
     same(line, "change", (uint64_t)(int64_t)r.change, (uint64_t)(int64_t)change);
 }
 
+static inline void compared_as(int line, shrike_compared r, uint32_t number, uint32_t takes_all, uint32_t length) {
+    same(line, "number", r.number, number);
+    same(line, "takes_all", r.takes_all, takes_all);
+    same(line, "length", r.length, length);
+}
+
 #define COUNTED(call, number, count) counted(__LINE__, call, number, count)
 #define JUDGED(call, number, place) judged(__LINE__, call, number, place)
 #define ANSWERED(call, number, place, used, change) answered(__LINE__, call, number, place, used, change)
+#define COMPARED(call, number, takes_all, length) compared_as(__LINE__, call, number, takes_all, length)
 #define SAME(what, got, due) same(__LINE__, what, got, due)
 #define BYTES(got, due, n) bytes_same(__LINE__, got, due, n)
 

@@ -52,7 +52,8 @@ static void versions(void) {
 static void words(void) {
     static const uint32_t answers[] = {SHRIKE_DONE,  SHRIKE_BROKEN,     SHRIKE_SCHEMA,  SHRIKE_AMBIGUOUS, SHRIKE_SHAPE,
                                        SHRIKE_ROOM,  SHRIKE_PLACE,      SHRIKE_NAME,    SHRIKE_ATTRIBUTES, SHRIKE_CONTENT,
-                                       SHRIKE_ROOT,  SHRIKE_ID_TWICE,   SHRIKE_NO_ID,   SHRIKE_TABLE,     UINT32_MAX};
+                                       SHRIKE_ROOT,  SHRIKE_ID_TWICE,   SHRIKE_NO_ID,   SHRIKE_TABLE,     SHRIKE_NOT_COMPARED,
+                                       UINT32_MAX};
     for (size_t i = 0; i < LENGTH(answers); i++)
         for (size_t j = 0; j < i; j++) SAME("words alike", strcmp(shrike_words(answers[i]), shrike_words(answers[j])) == 0, 0);
 }
@@ -277,6 +278,20 @@ static void answers(void) {
     SCHEMA(SHRIKE_AMBIGUOUS, 1, 0, SHRIKE_MODEL, 4, SHRIKE_SEQUENCE, SHRIKE_OPTIONAL, NAME(0), NAME(0), 0);
 }
 
+/* An element compared with itself: an empty one, by the last table. */
+static shrike_compared compared_with_itself(uint32_t element, size_t room) {
+    static uint32_t sequence[2 * SHRIKE_SEQUENCE_PLACES];
+    return shrike_compare(table, SHRIKE_TABLE_WORDS, table, SHRIKE_TABLE_WORDS, element, sequence, room);
+}
+
+static void comparisons(void) {
+    SCHEMA(SHRIKE_DONE, 2, 0, SHRIKE_EMPTY, 0, SHRIKE_TEXT_ONLY, 0);
+    COMPARED(compared_with_itself(0, SHRIKE_SEQUENCE_PLACES), SHRIKE_DONE, 1, 0);
+    COMPARED(compared_with_itself(0, SHRIKE_SEQUENCE_PLACES - 1), SHRIKE_ROOM, 0, 0);
+    COMPARED(compared_with_itself(1, SHRIKE_SEQUENCE_PLACES), SHRIKE_NOT_COMPARED, 0, 0);
+    COMPARED(compared_with_itself(2, SHRIKE_SEQUENCE_PLACES), SHRIKE_PLACE, 0, 0);
+}
+
 int main(void) {
     versions();
     words();
@@ -288,5 +303,6 @@ int main(void) {
     tables();
     operations();
     answers();
+    comparisons();
     return told();
 }

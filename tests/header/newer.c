@@ -39,3 +39,9 @@ shrike_answer shrike_edit(const uint64_t *table, size_t words, uint32_t *doc, si
     shrike_answer r = {answer("edit"), 0, used, 0};
     return (void)table, (void)words, (void)doc, (void)room, (void)operation, (void)place, (void)piece, (void)n, r;
 }
+
+shrike_compared shrike_compare(const uint64_t *old_table, size_t old_words, const uint64_t *new_table, size_t new_words, uint32_t element,
+                               uint32_t *sequence, size_t room) {
+    shrike_compared r = {answer("compare"), 0, 0};
+    return (void)old_table, (void)old_words, (void)new_table, (void)new_words, (void)element, (void)sequence, (void)room, r;
+}

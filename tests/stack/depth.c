@@ -1,6 +1,7 @@
 /* How much stack each call takes: it runs in a thread on a stack of our own that holds a pattern, and the lowest place that lost the
  * pattern tells. Prints a line for each call: its name and the bytes. The inputs reach the deepest frames: a model nested as deep as 255
- * symbols allow, a document of 8,192 tokens and 64 deep, an edit that is done at its end. POSIX threads. */
+ * symbols allow, a document of 8,192 tokens and 64 deep, an edit that is done at its end, a comparison that finds
+ * something lost. POSIX threads. */
 #define _GNU_SOURCE
 #include "shrikemuff.h"
 
@@ -14,7 +15,7 @@
 #define PATTERN 0xa5
 
 static uint8_t schema[1024], file[3 * 8192];
-static uint64_t table[SHRIKE_TABLE_WORDS];
+static uint64_t table[SHRIKE_TABLE_WORDS], empty_table[SHRIKE_TABLE_WORDS];
 static uint32_t doc[SHRIKE_MOST_TOKENS], used;
 
 static void *nothing(void *answer) {
@@ -55,6 +56,13 @@ static void *edits(void *answer) {
     return answer;
 }
 
+static void *compares(void *answer) {
+    static uint32_t sequence[SHRIKE_SEQUENCE_PLACES];
+    shrike_compared r = shrike_compare(table, SHRIKE_TABLE_WORDS, empty_table, SHRIKE_TABLE_WORDS, 0, sequence, SHRIKE_SEQUENCE_PLACES);
+    *(uint32_t *)answer = r.number == 0 && r.takes_all == 0 && r.length == 1 ? 0 : 1 + r.number;
+    return answer;
+}
+
 /* The bytes of stack that the thread takes. */
 static size_t taken(void *(*work)(void *), uint32_t *answer) {
     uint8_t *stack = mmap(NULL, STACK, PROT_READ | PROT_WRITE, MAP_PRIVATE | MAP_ANONYMOUS, -1, 0);
@@ -84,6 +92,8 @@ static void told(const char *name, void *(*work)(void *)) {
 }
 
 int main(void) {
+    /* two elements, both EMPTY */
+    static const uint8_t empty[] = {2, 0, 0, 0, 0, 0};
     uint32_t i, answer = 0;
     uint8_t *s = schema;
     /* two elements: 0 is (0|1)* in 251 brackets that say "optional", with 255 symbols in all; 1 is EMPTY */
@@ -101,11 +111,13 @@ int main(void) {
     for (i = 0; i < 63; i++) doc[used++] = 2;
     doc[used++] = 2;
     for (i = 0; i < sizeof file; i++) file[i] = i % 3 == 2 ? 1 : 128;
+    if (shrike_translate(empty, sizeof empty, empty_table, SHRIKE_TABLE_WORDS) != 0) abort();
     thread_alone = taken(nothing, &answer);
     told("shrike_read", reads);
     told("shrike_write", writes);
     told("shrike_translate", translates);
     told("shrike_check", checks);
     told("shrike_edit", edits);
+    told("shrike_compare", compares);
     return wrong;
 }

@@ -1,10 +1,11 @@
-//! The straightforward version: the paper's five calls in safe Rust, as one writes them without proofs.
+//! The straightforward version: the six calls in safe Rust, as one writes them without proofs.
 //!
 //! It promises what the core promises. It trusts no caller: table and shape are tested at each call. It judges in the paper's
 //! order. A refusal leaves lent memory as it was.
 //!
 //! There are two of it, which differ in one thing: how an ID met twice is found (`Keys`).
 
+mod compare;
 mod edits;
 mod judge;
 mod keys;
@@ -14,7 +15,8 @@ mod schema;
 mod shape;
 mod table;
 
-use crate::calls::{Answer, Calls, Count, Verdict};
+use crate::calls::{Answer, Calls, Compared, Count, Verdict};
+pub use compare::PLACES;
 pub use keys::Keys;
 pub use table::WORDS;
 
@@ -66,6 +68,15 @@ impl Calls for Plain {
         match edits::edit(table, buffer, used, operation, place, piece, self.keys) {
             Ok(new) => Answer { number: 0, place: 0, used: new as u64, change: new as i32 - used as i32 },
             Err(fault) => Answer { number: fault.number, place: fault.place, used, change: 0 },
+        }
+    }
+
+    #[inline(never)]
+    fn compare(&self, old: &[u64], new: &[u64], element: u32, sequence: &mut [u32]) -> Compared {
+        match compare::compare(old, new, element, sequence) {
+            Ok(None) => Compared { number: 0, takes_all: 1, length: 0 },
+            Ok(Some(length)) => Compared { number: 0, takes_all: 0, length: length as u32 },
+            Err(number) => Compared { number, takes_all: 0, length: 0 },
         }
     }
 }

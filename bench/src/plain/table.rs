@@ -51,6 +51,10 @@ impl<'a> Table<'a> {
         }
     }
 
+    pub fn elements(&self) -> u32 {
+        self.words[0] as u32
+    }
+
     pub fn root(&self) -> u32 {
         self.words[1] as u32
     }
@@ -62,6 +66,22 @@ impl<'a> Table<'a> {
         }
         let begin = 2 + name as usize * BLOCK;
         Some(Element { block: &self.words[begin..begin + BLOCK] })
+    }
+}
+
+/// Where a run of a model stands: at the start, or behind an occurrence.
+#[derive(Clone, Copy)]
+pub enum State {
+    Start,
+    Behind(usize),
+}
+
+impl State {
+    pub fn number(self) -> usize {
+        match self {
+            State::Start => 0,
+            State::Behind(k) => 1 + k,
+        }
     }
 }
 
@@ -127,6 +147,23 @@ impl<'a> Element<'a> {
             && follow.iter().all(|&set| set & !lowest == 0 && one_of_each(names, set))
             && all_zero(no_names)
             && all_zero(no_follow)
+    }
+
+    /// The state behind one more child, if the content takes it.
+    pub fn next(&self, state: State, name: u32) -> Option<State> {
+        let set = match state {
+            State::Start => self.block[at::FIRST],
+            State::Behind(k) => self.block[at::FOLLOW + k],
+        };
+        members(set).find(|&k| self.block[at::NAMES + k] == u64::from(name)).map(State::Behind)
+    }
+
+    /// Whether the children may end there.
+    pub fn ends(&self, state: State) -> bool {
+        match state {
+            State::Start => self.kind() == EMPTY || self.block[at::NO_CHILD] == 1,
+            State::Behind(k) => self.block[at::LAST] >> k & 1 == 1,
+        }
     }
 
     pub fn run(&self) -> Run<'a> {

@@ -1,7 +1,8 @@
 //! The plain version on the paper's small shade and its four models.
 
-use super::{Keys, Plain, WORDS};
-use crate::calls::{Answer, Calls, Count, Verdict};
+use super::{Keys, Plain, PLACES, WORDS};
+use crate::calls::{Answer, Calls, Compared, Count, Verdict};
+use crate::documents::{cycle, file, other_small_shade};
 
 const SCHEMA: [u8; 28] = [4, 0, 2, 5, 0, 4, 6, 3, 8, 1, 0, 0, 0, 2, 2, 3, 7, 1, 1, 1, 0, 1, 0, 0, 1, 2, 2, 0];
 const SHADE: [u32; 15] = [1, 4, 61, 9, 12, 165, 17, 243, 2, 2, 25, 20, 165, 2, 2];
@@ -143,4 +144,34 @@ fn files() {
     assert_eq!(plain.write(&[127, 128, 2_097_151], &mut file[..5]), refused(5));
     assert_eq!(plain.write(&[2_097_152], &mut []), refused(4));
     assert_eq!(plain.write(&[1; 8193], &mut [0; 9000]), refused(5));
+}
+
+/// The answer for element `element` of two schema files, and what is lost.
+fn compared(old: &[u8], new: &[u8], element: u32, room: usize) -> (Compared, Vec<u32>) {
+    let plain = Plain { keys: Keys::Pairs };
+    let tables = [old, new].map(|file| {
+        let mut table = vec![0; WORDS];
+        plain.translate(file, &mut table);
+        table
+    });
+    let mut sequence = vec![7; room];
+    let said = plain.compare(&tables[0], &tables[1], element, &mut sequence);
+    assert!(sequence[said.length as usize..].iter().all(|&place| place == 7));
+    sequence.truncate(said.length as usize);
+    (said, sequence)
+}
+
+#[test]
+fn comparisons() {
+    let said = |number, takes_all, length| Compared { number, takes_all, length };
+    let other = file(&other_small_shade());
+    assert_eq!(compared(&SCHEMA, &other, 0, PLACES), (said(0, 0, 3), vec![1, 1, 1]));
+    assert_eq!(compared(&other, &SCHEMA, 0, PLACES), (said(0, 1, 0), vec![]));
+    assert_eq!(compared(&SCHEMA, &other, 3, PLACES), (said(0, 1, 0), vec![]));
+    assert_eq!(compared(&SCHEMA, &[0], 0, PLACES), (said(13, 0, 0), vec![]));
+    assert_eq!(compared(&[0], &SCHEMA, 0, PLACES), (said(13, 0, 0), vec![]));
+    assert_eq!(compared(&SCHEMA, &SCHEMA, 4, PLACES), (said(6, 0, 0), vec![]));
+    assert_eq!(compared(&SCHEMA, &SCHEMA, 2, PLACES), (said(16, 0, 0), vec![]));
+    assert_eq!(compared(&SCHEMA, &SCHEMA, 0, PLACES - 1), (said(5, 0, 0), vec![]));
+    assert_eq!(compared(&file(&cycle(64)), &file(&cycle(63)), 0, PLACES), (said(0, 0, 64), vec![0; 64]));
 }

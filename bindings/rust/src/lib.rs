@@ -38,7 +38,7 @@ pub mod numbers;
 pub mod raw;
 pub mod token;
 
-pub use numbers::{MOST_BYTES, MOST_TOKENS, TABLE_WORDS, VERSION};
+pub use numbers::{MOST_BYTES, MOST_TOKENS, SEQUENCE_PLACES, TABLE_WORDS, VERSION};
 pub use refusal::{Fault, Refusal};
 
 #[cfg(not(target_pointer_width = "64"))]
@@ -183,6 +183,45 @@ impl Table {
         };
         Fault::of(r.number, r.place).map(|()| Done { used: r.used as usize, change: r.change })
     }
+}
+
+/// Compares the content of an element in two tables. `None`: the new one takes every sequence of children that the old one takes. Else the
+/// shortest sequence that would be lost, as numbers of elements, of equals the lowest from the left; it stands in the first places of
+/// `sequence`, and later ones keep their contents. `sequence` has [`SEQUENCE_PLACES`] places or more.
+///
+/// ```
+/// use shrikemuff::numbers::{CHOICE, EMPTY, MODEL, NAMED, OPTIONAL};
+/// use shrikemuff::{compare, write, Refusal, Table, SEQUENCE_PLACES};
+///
+/// let table = |numbers: &[u32]| {
+///     let mut file = [0; 32];
+///     let length = write(numbers, &mut file).unwrap();
+///     Table::translate(&file[..length]).unwrap()
+/// };
+/// // element 0 is 1 | 2 at first, and then 1?; 1 and 2 are empty
+/// let old = table(&[3, 0, MODEL, 3, CHOICE, NAMED + 1, NAMED + 2, 0, EMPTY, 0, EMPTY, 0]);
+/// let new = table(&[3, 0, MODEL, 2, OPTIONAL, NAMED + 1, 0, EMPTY, 0, EMPTY, 0]);
+/// let mut sequence = [0; SEQUENCE_PLACES];
+/// assert_eq!(compare(&old, &new, 0, &mut sequence), Ok(Some(&[2][..])));
+/// assert_eq!(compare(&new, &old, 0, &mut sequence), Ok(Some(&[][..])));
+/// assert_eq!(compare(&old, &new, 1, &mut sequence), Ok(None));
+/// assert_eq!(compare(&old, &new, 3, &mut sequence), Err(Refusal::Place));
+/// ```
+pub fn compare<'a>(old: &Table, new: &Table, element: u32, sequence: &'a mut [u32]) -> Result<Option<&'a [u32]>, Refusal> {
+    served()?;
+    // SAFETY: as in `read`.
+    let r = unsafe {
+        raw::shrike_compare(
+            old.words.as_ptr(),
+            TABLE_WORDS,
+            new.words.as_ptr(),
+            TABLE_WORDS,
+            element,
+            sequence.as_mut_ptr(),
+            sequence.len(),
+        )
+    };
+    Refusal::of(r.number).map(|()| if r.takes_all == 1 { None } else { Some(&sequence[..r.length as usize]) })
 }
 
 impl fmt::Debug for Table {

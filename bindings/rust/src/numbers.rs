@@ -2,7 +2,7 @@
 
 // The version that this binding is written for.
 pub const VERSION_MAJOR: u32 = 0;
-pub const VERSION_MINOR: u32 = 1;
+pub const VERSION_MINOR: u32 = 2;
 pub const VERSION_PATCH: u32 = 0;
 pub const VERSION: u32 = VERSION_MAJOR * 1_000_000 + VERSION_MINOR * 1_000 + VERSION_PATCH;
 
@@ -65,6 +65,9 @@ pub const LAST_AT: usize = 9;
 pub const NAMES_AT: usize = 10;
 pub const FOLLOW_AT: usize = 74;
 
+// The places of the sequence buffer of a comparison, at least.
+pub const SEQUENCE_PLACES: usize = 4_290;
+
 // Answer numbers.
 pub const DONE: u32 = 0;
 pub const BROKEN: u32 = 1;
@@ -80,6 +83,7 @@ pub const ROOT: u32 = 10;
 pub const ID_TWICE: u32 = 11;
 pub const NO_ID: u32 = 12;
 pub const TABLE: u32 = 13;
+pub const NOT_COMPARED: u32 = 16;
 
 // Operations.
 pub const INSERT: u32 = 1;

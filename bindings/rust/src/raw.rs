@@ -26,6 +26,15 @@ pub struct Answer {
     pub change: i32,
 }
 
+/// `shrike_compared`
+#[repr(C)]
+#[derive(Clone, Copy, Debug, PartialEq, Eq)]
+pub struct Compared {
+    pub number: u32,
+    pub takes_all: u32,
+    pub length: u32,
+}
+
 extern "C" {
     pub fn shrike_version() -> u32;
     pub fn shrike_read(file: *const u8, file_len: usize, tokens: *mut u32, room: usize) -> Count;
@@ -43,4 +52,13 @@ extern "C" {
         piece: *const u32,
         n: usize,
     ) -> Answer;
+    pub fn shrike_compare(
+        old_table: *const u64,
+        old_words: usize,
+        new_table: *const u64,
+        new_words: usize,
+        element: u32,
+        sequence: *mut u32,
+        room: usize,
+    ) -> Compared;
 }

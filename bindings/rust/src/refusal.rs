@@ -32,6 +32,8 @@ pub enum Refusal {
     NoId,
     /// table
     Table,
+    /// kind not compared
+    NotCompared,
     /// an answer that this binding does not know, of a newer library
     Unknown(u32),
     /// nothing was called: a library of this version does not serve this binding ([`serves`](crate::serves))
@@ -54,6 +56,7 @@ impl Refusal {
         Refusal::IdTwice,
         Refusal::NoId,
         Refusal::Table,
+        Refusal::NotCompared,
     ];
 
     /// The answer's number; none if nothing was called.
@@ -72,6 +75,7 @@ impl Refusal {
             Refusal::IdTwice => numbers::ID_TWICE,
             Refusal::NoId => numbers::NO_ID,
             Refusal::Table => numbers::TABLE,
+            Refusal::NotCompared => numbers::NOT_COMPARED,
             Refusal::Unknown(number) => number,
             Refusal::Version(_) => return None,
         })
@@ -93,6 +97,7 @@ impl Refusal {
             Refusal::IdTwice => "ID twice",
             Refusal::NoId => "reference to none",
             Refusal::Table => "table",
+            Refusal::NotCompared => "kind not compared",
             Refusal::Unknown(_) => "unknown answer",
             Refusal::Version(_) => "library of another version",
         }

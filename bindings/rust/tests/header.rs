@@ -56,12 +56,12 @@ fn words_of_faults() {
             "root at 5",
             "ID twice at 5",
             "reference to none at 5",
-            "table"
+            "table",
+            "kind not compared"
         ]
     );
-    for (i, refusal) in Refusal::ALL.iter().enumerate() {
-        assert_eq!(refusal.number(), Some(i as u32 + 1));
-    }
+    let numbers: Vec<u32> = Refusal::ALL.iter().filter_map(|refusal| refusal.number()).collect();
+    assert_eq!(numbers, [1, 2, 3, 4, 5, 6, 7, 8, 9, 10, 11, 12, 13, 16]);
 }
 
 #[test]

@@ -1,5 +1,5 @@
 //! A library that is newer than the binding: `tests/hosts` runs this with tests/header/newer.c in the library's place.
-use shrikemuff::{library_version, read, write, Edit, Refusal, Table, TABLE_WORDS, VERSION};
+use shrikemuff::{compare, library_version, read, write, Edit, Refusal, Table, TABLE_WORDS, VERSION};
 use std::env::set_var;
 
 /// What each call is refused with, in the order of `CALLS`.
@@ -12,10 +12,11 @@ fn refusals() -> Vec<Option<Refusal>> {
         Table::translate(&[]).err(),
         table.check(&doc, 0).err().map(|fault| fault.refusal),
         table.edit(&mut doc, 0, Edit::remove(1)).err().map(|fault| fault.refusal),
+        compare(&table, &table, 0, &mut []).err(),
     ]
 }
 
-const CALLS: [&str; 5] = ["read", "write", "translate", "check", "edit"];
+const CALLS: [&str; 6] = ["read", "write", "translate", "check", "edit", "compare"];
 
 #[test]
 #[ignore = "the library is not the newer one"]
@@ -23,13 +24,13 @@ fn newer() {
     for more in [1_000_000, 7_000_000] {
         set_var("NEWER_BY", more.to_string());
         assert_eq!(library_version(), VERSION + more);
-        assert_eq!(refusals(), [Some(Refusal::Version(VERSION + more)); 5]);
+        assert_eq!(refusals(), [Some(Refusal::Version(VERSION + more)); 6]);
     }
     for more in [0, 1, 1_000] {
         set_var("NEWER_BY", more.to_string());
         for (i, call) in CALLS.iter().enumerate() {
             set_var("NEW_IN", call);
-            let mut due = [None; 5];
+            let mut due = [None; 6];
             due[i] = Some(Refusal::Unknown(1_013));
             assert_eq!(refusals(), due);
         }

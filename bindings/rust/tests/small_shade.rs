@@ -1,5 +1,5 @@
 //! The paper's small shade, and what the binding adds to the calls: lengths, answers as types.
-use shrikemuff::{raw, read, token, write, Edit, Fault, Refusal, Table, MOST_BYTES, MOST_TOKENS, TABLE_WORDS};
+use shrikemuff::{compare, raw, read, token, write, Edit, Fault, Refusal, Table, MOST_BYTES, MOST_TOKENS, SEQUENCE_PLACES, TABLE_WORDS};
 
 const SCHEMA: [u8; 28] = [4, 0, 2, 5, 0, 4, 6, 3, 8, 1, 0, 0, 0, 2, 2, 3, 7, 1, 1, 1, 0, 1, 0, 0, 1, 2, 2, 0];
 const SHADE: [u32; 15] = [1, 4, 61, 9, 12, 165, 17, 243, 2, 2, 25, 20, 165, 2, 2];
@@ -110,6 +110,33 @@ fn edits() {
     let mut short = SHADE;
     assert_eq!(table().edit(&mut short, 15, Edit::insert(10, &panel)), fault(Room, 0));
     assert_eq!(short, SHADE);
+}
+
+#[test]
+fn comparisons() {
+    // the shade as panel+, use* and as (panel | use)*
+    let mut other = SCHEMA.to_vec();
+    other.splice(3..9, [4, 3, 1, 6, 8]);
+    let (old, new) = (Table::translate(&other).unwrap(), table());
+    let mut sequence = [BEHIND; SEQUENCE_PLACES];
+    assert_eq!(compare(&new, &old, 0, &mut sequence), Ok(None));
+    assert_eq!(compare(&old, &new, 0, &mut sequence), Ok(Some(&[][..])));
+    assert_eq!(sequence, [BEHIND; SEQUENCE_PLACES]);
+    assert_eq!(compare(&old, &new, 2, &mut sequence), Err(Refusal::NotCompared));
+    assert_eq!(compare(&old, &new, 4, &mut sequence), Err(Refusal::Place));
+    assert_eq!(compare(&old, &new, u32::MAX, &mut sequence), Err(Refusal::Place));
+    assert_eq!(compare(&new, &new, 0, &mut sequence[1..]), Err(Refusal::Room));
+    let none = Table::from_words(Box::new([0; TABLE_WORDS]));
+    assert_eq!(compare(&none, &new, 0, &mut sequence), Err(Refusal::Table));
+    assert_eq!(compare(&new, &none, 0, &mut sequence), Err(Refusal::Table));
+    assert_eq!(sequence, [BEHIND; SEQUENCE_PLACES]);
+    // as panel, panel+
+    let mut twice = SCHEMA.to_vec();
+    twice.splice(3..9, [4, 0, 6, 4, 6]);
+    let twice = Table::translate(&twice).unwrap();
+    assert_eq!(compare(&new, &twice, 0, &mut sequence), Ok(Some(&[1][..])));
+    assert_eq!(sequence[1], BEHIND);
+    assert_eq!(compare(&twice, &new, 0, &mut sequence), Ok(None));
 }
 
 /// The raw answer of an edit gives back the length that was handed in, with all its bits.

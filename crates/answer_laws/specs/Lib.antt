@@ -7,3 +7,4 @@ pub mod Judged
 pub mod NeverSeven
 pub mod Check
 pub mod Edit
+pub mod Compare

@@ -1,13 +1,14 @@
--- The demands, of any outcomes that the contracts of the library's five calls allow: those that a host links and runs. A line for each
+-- The demands, of any outcomes that the contracts of the library's six calls allow: those that a host links and runs. A line for each
 -- promise. Assumes nothing.
 use Rattle.contracts.specs.{TakesAll, Allows}
 use Rattle.promises.specs.Calls.{Calls, Faithful}
 use Rattle.promises.specs.Statements as promised
+use Rattle.promises.specs.Inclusion as inclusion
 use Rattle.promises.specs.Theorems as proved
-use Rattle.shrikemuff.proofs.Contracts.{shrike-read, shrike-write, shrike-translate, shrike-check, shrike-edit}
+use Rattle.shrikemuff.proofs.Contracts.{shrike-read, shrike-write, shrike-translate, shrike-check, shrike-edit, shrike-compare}
 use Rattle.shrikemuff.proofs.Contracts as contracts
 
--- the library's five calls, each by its own contract
+-- the library's six calls, each by its own contract
 abbrev pub shrikes : Calls
 shrikes = record {
   Reads = λ file buffer. Allows shrike-read (file, buffer);
@@ -15,6 +16,7 @@ shrikes = record {
   Translates = λ file table. Allows shrike-translate (file, table);
   Checks = λ table buffer used. Allows shrike-check (table, buffer, used);
   Performs = λ table buffer used q. Allows shrike-edit (table, buffer, used, q);
+  Compares = λ old new e buffer. Allows shrike-compare (old, new, e, buffer);
 }
 
 faithful : Faithful shrikes
@@ -24,6 +26,7 @@ faithful = record {
   translates = λ file table. contracts.translates (file, table);
   checks = λ table buffer used. contracts.checks (table, buffer, used);
   performs = λ table buffer used q. contracts.performs (table, buffer, used, q);
+  compares = λ old new e buffer. contracts.compares (old, new, e, buffer);
 }
 
 -- ---- every call
@@ -46,8 +49,8 @@ edit-determinate = proved.edit-determinate shrikes faithful
 -- ---- demand 1
 
 -- "Every call takes every input"
-pub take-all : TakesAll shrike-read × TakesAll shrike-write × TakesAll shrike-translate × TakesAll shrike-check × TakesAll shrike-edit
-take-all = (contracts.read-takes-all, contracts.write-takes-all, contracts.translate-takes-all, contracts.check-takes-all, contracts.edit-takes-all)
+pub take-all : TakesAll shrike-read × TakesAll shrike-write × TakesAll shrike-translate × TakesAll shrike-check × TakesAll shrike-edit × TakesAll shrike-compare
+take-all = (contracts.read-takes-all, contracts.write-takes-all, contracts.translate-takes-all, contracts.check-takes-all, contracts.edit-takes-all, contracts.compare-takes-all)
 
 pub read-answers : promised.ReadAnswers shrikes
 read-answers = proved.read-answers shrikes faithful
@@ -127,3 +130,26 @@ table-reads = proved.table-reads shrikes faithful
 
 pub demand-3 : promised.Demand3 shrikes
 demand-3 = proved.demand-3 shrikes faithful
+
+-- ---- item 12
+
+pub compare-determinate : inclusion.CompareDeterminate shrikes
+compare-determinate = proved.compare-determinate shrikes faithful
+
+pub compare-answers : inclusion.CompareAnswers shrikes
+compare-answers = proved.compare-answers shrikes faithful
+
+pub compare-keeps : inclusion.CompareKeeps shrikes
+compare-keeps = proved.compare-keeps shrikes faithful
+
+pub compare-order : inclusion.CompareOrder shrikes
+compare-order = proved.compare-order shrikes faithful
+
+pub compare-tells : inclusion.CompareTells shrikes
+compare-tells = proved.compare-tells shrikes faithful
+
+pub compare-by-expressions : inclusion.CompareByExpressions shrikes
+compare-by-expressions = proved.compare-by-expressions shrikes faithful
+
+pub compare-means : inclusion.CompareMeans shrikes
+compare-means = proved.compare-means shrikes faithful

@@ -95,14 +95,15 @@ stepped-small {b} {q} {r} g s = inside-small b (g .few) r (s .within)
 stepped-is : (b : List ℕ) (q r : Run) (a : ℕ) {o : Option State} → stateOf q ≡ o → Stepped b q a r → stateOf r ≡ stepped b o a
 stepped-is b q r a {o} e s = s .same ∙ ap (λ x. stepped b x a) e
 
-module _ (old new : List ℕ) (p a : ℕ) (q r s t : Run) {w i : ℕ} (e : stateOf q ≡ oldAt p) (d : Stepped old q a r) (n : w ≡ runNumber (stateOf r))
-    (f : stateOf s ≡ newAt p) (g : Stepped new s a t) (m : i ≡ runNumber (stateOf t)) where
-  led : joinNumber w i ≡ leadsTo old new p a
-  unfolding leadsTo
-  led = ap₂ joinNumber (n ∙ ap runNumber (stepped-is old q r a e d)) (m ∙ ap runNumber (stepped-is new s t a f g))
+module _ (old new : List ℕ) (p a : ℕ) (q r : Run) {w : ℕ} (e : stateOf q ≡ oldAt p) (d : Stepped old q a r) (n : w ≡ runNumber (stateOf r)) where
+  was : w ≡ runNumber (stepped old (oldAt p) a)
+  was = n ∙ ap runNumber (stepped-is old q r a e d)
 
+  -- the old run has no next occurrence
   pub leads-nowhere : w ≡ 0 → sequencePlaces ≡ leadsTo old new p a
-  leads-nowhere z = (rw z) ∙ led
+  unfolding leadsTo
+  leads-nowhere z = rw (← was, z)
 
-  pub leads-on : ¬ (w ≡ 0) → (w - 1) * 66 + i ≡ leadsTo old new p a
-  leads-on z = (rw (ne-eqb w 0 z)) ∙ led
+  pub leads-on : (s t : Run) {i : ℕ} → stateOf s ≡ newAt p → Stepped new s a t → i ≡ runNumber (stateOf t) → ¬ (w ≡ 0) → (w - 1) * 66 + i ≡ leadsTo old new p a
+  unfolding leadsTo
+  leads-on s t f g m z = (rw (ne-eqb w 0 z)) ∙ ap₂ joinNumber was (m ∙ ap runNumber (stepped-is new s t a f g))

@@ -72,9 +72,9 @@ pub fn leads(old: &[u64], new: &[u64], pair: u32, child: u32) -> u32
     ensures { λ r. ⌜ r ≡ leadsTo (now (old .entry)) (now (new .entry)) pair child ⌝ }
 {
     let was = number_of(run_of(pair / RUNS + 1).step(old, child));
-    let is = number_of(run_of(pair % RUNS).step(new, child));
     if was == 0 {
         return SEQUENCE_PLACES as u32;
     }
+    let is = number_of(run_of(pair % RUNS).step(new, child));
     (was - 1) * RUNS + is
 }

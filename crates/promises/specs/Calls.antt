@@ -1,9 +1,10 @@
--- Five calls, each by the outcomes that its contract allows. A promise is said of any such five. Assumes nothing.
+-- Six calls, each by the outcomes that its contract allows. A promise is said of any such six. Assumes nothing.
 use mathlib.Core.List.{List}
 use Prim.Native.Nat.{ℕ}
 use Rattle.paper.specs.Files.{Counted}
 use Rattle.paper.specs.Judgement.{Answer}
 use Rattle.paper.specs.Edits.{Request, Outcome}
+use Rattle.paper.specs.Inclusion.{Compared}
 use Rattle.paper.specs.Calls as paper
 
 -- what each is given, and an outcome: the answer and every place of lent memory after the call
@@ -13,18 +14,20 @@ pub record Calls : Type 1 where
   pub Translates : (file table : List ℕ) → ℕ × List ℕ → Type 0
   pub Checks : (table buffer : List ℕ) → (used : ℕ) → Answer → Type 0
   pub Performs : (table buffer : List ℕ) → (used : ℕ) → Request → Outcome → Type 0
+  pub Compares : (old new : List ℕ) → (element : ℕ) → (buffer : List ℕ) → Compared → Type 0
 
--- the paper's five
+-- the paper's six
 abbrev pub papers : Calls
-papers = record { Reads = paper.Reads; Writes = paper.Writes; Translates = paper.Translates; Checks = paper.Checks; Performs = paper.Performs }
+papers = record { Reads = paper.Reads; Writes = paper.Writes; Translates = paper.Translates; Checks = paper.Checks; Performs = paper.Performs; Compares = paper.Compares }
 
--- five calls that allow no outcome but the paper's: of these every promise is proved
+-- six calls that allow no outcome but the paper's: of these every promise is proved
 pub record Faithful (calls : Calls) : Type 0 where
   pub reads : (file buffer : List ℕ) (o : Counted) → calls .Reads file buffer o → paper.Reads file buffer o
   pub writes : (tokens buffer : List ℕ) (o : Counted) → calls .Writes tokens buffer o → paper.Writes tokens buffer o
   pub translates : (file table : List ℕ) (o : ℕ × List ℕ) → calls .Translates file table o → paper.Translates file table o
   pub checks : (table buffer : List ℕ) (used : ℕ) (o : Answer) → calls .Checks table buffer used o → paper.Checks table buffer used o
   pub performs : (table buffer : List ℕ) (used : ℕ) (q : Request) (o : Outcome) → calls .Performs table buffer used q o → paper.Performs table buffer used q o
+  pub compares : (old new : List ℕ) (e : ℕ) (buffer : List ℕ) (o : Compared) → calls .Compares old new e buffer o → paper.Compares old new e buffer o
 
 pub papers-faithful : Faithful papers
 papers-faithful = record {
@@ -33,4 +36,5 @@ papers-faithful = record {
   translates = λ file table o t. t;
   checks = λ table buffer used o c. c;
   performs = λ table buffer used q o p. p;
+  compares = λ old new e buffer o c. c;
 }

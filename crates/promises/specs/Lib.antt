@@ -6,5 +6,8 @@ pub mod OnTree
 pub mod ByTable
 pub mod ByFile
 pub mod Run
+-- Item 12: what is promised, and its proofs
+pub mod Inclusion
+pub mod Compared
 pub mod Theorems
 pub mod Example

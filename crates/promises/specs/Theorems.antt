@@ -1,4 +1,4 @@
--- Every promise that is proved: a line for each statement, with the proof that it cites. Those of the calls are proved of any five that
+-- Every promise that is proved: a line for each statement, with the proof that it cites. Those of the calls are proved of any six that
 -- allow no outcome but the paper's. Assumes nothing.
 use mathlib.Core.Path.{_≡_}
 use mathlib.Core.Logic.{_↔_}
@@ -21,6 +21,7 @@ use Rattle.answer_laws.specs.ReaderWriter as reader-writer
 use Rattle.answer_laws.specs.Translator as translator
 use Rattle.answer_laws.specs.Check as check
 use Rattle.answer_laws.specs.Edit as edit
+use Rattle.answer_laws.specs.Compare as compare
 use Rattle.promises.specs.Calls.{Calls, papers, Faithful}
 use Rattle.promises.specs.Statements as promised
 use Rattle.promises.specs.Statements.{Translated, Runs}
@@ -29,6 +30,8 @@ use Rattle.promises.specs.ByTable as by-table
 use Rattle.promises.specs.ByFile as by-file
 use Rattle.promises.specs.OnTree as on-tree
 use Rattle.promises.specs.Run.{run-right}
+use Rattle.promises.specs.Inclusion as inclusion
+use Rattle.promises.specs.Compared as compared
 
 -- ---- what the tests and sets of the paper mean
 
@@ -194,3 +197,28 @@ module _ (calls : Calls) (is : Faithful calls) where
   demand-3 s table t buffer used v l r =
       let u = by-paper s table t in
       run-right s (valid-iff s table u) table u buffer used v l (runs-by-paper table buffer used l r)
+
+  -- ---- item 12
+
+  pub compare-determinate : inclusion.CompareDeterminate calls
+  compare-determinate i o p a b = compared.determinate i o p (is .compares _ _ _ _ o a) (is .compares _ _ _ _ p b)
+
+  pub compare-answers : inclusion.CompareAnswers calls
+  compare-answers old new e buffer o c = compare.compare-answers old new e buffer o (is .compares old new e buffer o c)
+
+  pub compare-keeps : inclusion.CompareKeeps calls
+  compare-keeps old new e buffer o c = compared.keeps old new e buffer o (is .compares old new e buffer o c)
+
+  pub compare-order : inclusion.CompareOrder calls
+  compare-order old new e buffer o c = compared.order old new e buffer o (is .compares old new e buffer o c)
+
+  pub compare-tells : inclusion.CompareTells calls
+  compare-tells old new e buffer o c = compared.tells old new e buffer o (is .compares old new e buffer o c)
+
+  pub compare-by-expressions : inclusion.CompareByExpressions calls
+  compare-by-expressions s t old new a b e buffer o c =
+      compared.by-expressions s t old new (by-paper s old a) (by-paper t new b) e buffer o (is .compares old new e buffer o c)
+
+  pub compare-means : inclusion.CompareMeans calls
+  compare-means s t old new a b e buffer o c =
+      compared.means s t old new (by-paper s old a) (by-paper t new b) e buffer o (is .compares old new e buffer o c)

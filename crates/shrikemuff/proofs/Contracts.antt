@@ -1,13 +1,14 @@
--- The contracts of the five calls, as they stand. Each asks nothing of a caller, and allows no outcome but the paper's. Assumes nothing.
+-- The contracts of the six calls, as they stand. Each asks nothing of a caller, and allows no outcome but the paper's. Assumes nothing.
 use mathlib.Core.List.{List}
 use Prim.Native.Nat.{ℕ}
 use denote.Ref.{now}
 use Rattle.paper.specs.Files.{Counted}
 use Rattle.paper.specs.Judgement.{Answer}
 use Rattle.paper.specs.Edits.{Request, Outcome}
-use Rattle.paper.specs.Calls.{Reads, Writes, Translates, Checks, Performs}
+use Rattle.paper.specs.Inclusion.{Compared}
+use Rattle.paper.specs.Calls.{Reads, Writes, Translates, Checks, Performs, Compares}
 use Rattle.contracts.specs.{Call, TakesAll, Allows, allowed}
-use Rattle.shrikemuff.specs.Outcomes.{counted, edited}
+use Rattle.shrikemuff.specs.Outcomes.{counted, edited, compared}
 use Rattle.shrikemuff.proofs.shrike_read.Kinds as read-kinds
 use Rattle.shrikemuff.proofs.shrike_read.Reads as read
 use Rattle.shrikemuff.proofs.shrike_write.Kinds as write-kinds
@@ -18,6 +19,8 @@ use Rattle.shrikemuff.proofs.shrike_check.Kinds as check-kinds
 use Rattle.shrikemuff.proofs.shrike_check.Reads as check
 use Rattle.shrikemuff.proofs.shrike_edit.Kinds as edit-kinds
 use Rattle.shrikemuff.proofs.shrike_edit.Reads as edit
+use Rattle.shrikemuff.proofs.shrike_compare.Kinds as compare-kinds
+use Rattle.shrikemuff.proofs.shrike_compare.Reads as compare
 
 -- ---- the reader: file and buffer
 
@@ -114,3 +117,22 @@ edit-takes-all κs given = tt
 
 pub performs : (i : List ℕ × List ℕ × ℕ × Request) (o : Outcome) → Allows shrike-edit i o → Performs (i .0) (i .1) (i .2) (i .3) o
 performs = allowed shrike-edit (λ i o. Performs (i .0) (i .1) (i .2) (i .3) o) (λ κs given result after told. told)
+
+-- ---- the comparison: old table, new table, element and sequence buffer
+
+abbrev pub shrike-compare : Call (List ℕ × List ℕ × ℕ × List ℕ) Compared
+shrike-compare = record {
+  lifetimes = 3;
+  ps = compare-kinds.ps;
+  r = compare-kinds.r;
+  Asked = compare.Asked;
+  Learnt = compare.Learnt;
+  input = λ κs given. (now (given .0), now (given .1 .0), given .1 .1 .0, now (given .1 .1 .1 .0));
+  outcome = λ κs result after. compared result (now (after .1 .1 .1 .0));
+}
+
+pub compare-takes-all : TakesAll shrike-compare
+compare-takes-all κs given = tt
+
+pub compares : (i : List ℕ × List ℕ × ℕ × List ℕ) (o : Compared) → Allows shrike-compare i o → Compares (i .0) (i .1) (i .2) (i .3) o
+compares = allowed shrike-compare (λ i o. Compares (i .0) (i .1) (i .2) (i .3) o) (λ κs given result after told. told)

@@ -1,2 +1,2 @@
--- Contracts says what the five contracts allow.
+-- Contracts says what the six contracts allow.
 pub mod Contracts

@@ -3,11 +3,16 @@ use mathlib.Core.List.{List}
 use Prim.Native.Nat.{ℕ}
 use Rattle.paper.specs.Files.{Counted}
 use Rattle.paper.specs.Edits.{Outcome}
+use Rattle.paper.specs.Inclusion as paper
 use Rattle.shrikemuff.specs.declared.Count.{Count}
 use Rattle.shrikemuff.specs.declared.Answer.{Answer}
+use Rattle.shrikemuff.specs.declared.Compared.{Compared}
 
 abbrev pub counted : Count → List ℕ → Counted
 counted r buffer = record { number = r .number; count = r .count; buffer = buffer }
 
 abbrev pub edited : Answer → List ℕ → Outcome
 edited r buffer = record { number = r .number; place = r .place; used = r .used; change = r .change; buffer = buffer }
+
+abbrev pub compared : Compared → List ℕ → paper.Compared
+compared r buffer = record { number = r .number; takesAll = r .«takes_all»; len = r .length; buffer = buffer }

@@ -6,7 +6,7 @@ abbrev pub major : ℕ
 major = 0
 
 abbrev pub minor : ℕ
-minor = 1
+minor = 2
 
 abbrev pub patch : ℕ
 patch = 0

@@ -1,4 +1,4 @@
-// The host library: the five calls under the names and types of C. `include/shrikemuff.h` describes them to a host.
+// The host library: the six calls under the names and types of C. `include/shrikemuff.h` describes them to a host.
 //
 // A slice is a pointer and a length, a struct is C's struct. No call asks anything of its arguments, allocates or keeps state; the
 // contract of each fixes the whole outcome: the answer and every place of lent memory. `proofs/Contracts.antt` holds them to the
@@ -6,8 +6,8 @@
 // Assumes nothing.
 pub mod version;
 
-ghost use Rattle.paper.specs.Calls.{Reads, Writes, Translates, Checks, Performs};
-ghost use Rattle.shrikemuff.specs.Outcomes.{counted, edited};
+ghost use Rattle.paper.specs.Calls.{Reads, Writes, Translates, Checks, Performs, Compares};
+ghost use Rattle.shrikemuff.specs.Outcomes.{counted, edited, compared};
 
 // "reader and writer [answer] a number and the count of tokens or bytes, 0 when refused"
 #[repr(C)]
@@ -30,6 +30,14 @@ pub struct Answer {
     pub place: u32,
     pub used: u64,
     pub change: i32,
+}
+
+// Item 12: yes (1) or no (0), and the length of the sequence that is lost.
+#[repr(C)]
+pub struct Compared {
+    pub number: u32,
+    pub takes_all: u32,
+    pub length: u32,
 }
 
 // Reads a document file into the first places of the buffer.
@@ -94,5 +102,23 @@ pub extern "C" fn shrike_edit(
         place: made.place,
         used: made.used as u64,
         change: made.change,
+    }
+}
+
+// Compares an element's content in two tables; what is lost is written into the first places of the buffer.
+#[no_mangle]
+pub extern "C" fn shrike_compare(
+    old: &[u64],
+    new: &[u64],
+    element: u32,
+    sequence: &mut [u32],
+) -> Compared
+    ensures { λ r. ⌜ Compares (now (old .entry)) (now (new .entry)) element (now (sequence .entry)) (compared r (now (sequence .exit))) ⌝ }
+{
+    let told = compare::compare(old, new, element, sequence);
+    Compared {
+        number: told.number,
+        takes_all: told.takes_all,
+        length: told.length,
     }
 }

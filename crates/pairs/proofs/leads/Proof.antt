@@ -21,7 +21,7 @@ run-of-requires-2 : tie.Need-run-of-requires-2
 run-of-requires-2 c κs = search needs
 
 step-requires-2 : tie.Need-step-requires-2
-step-requires-2 c κs = new-run (c .before .before .before .before .before .before .pre) (c .run-of2 .result) (c .run-of2 .ensures)
+step-requires-2 c κs = new-run (c .before .before .before .before .before .before .before .pre) (c .run-of2 .result) (c .run-of2 .ensures)
 
 number-of-requires-2 : tie.Need-number-of-requires-2
 number-of-requires-2 c κs = search stepped-small
@@ -40,7 +40,7 @@ mul-result c =
     let s = c .before .before .before .before .before in
     let g = s .before .before .before .before .pre in
     let was = stepped-small (g .old-ready) (s .step .ensures) in
-    let is = stepped-small (g .new-ready) (c .before .before .step2 .ensures) in
+    let is = stepped-small (g .new-ready) (c .before .step2 .ensures) in
     omega arith
 
 add-result : tie.Need-add-result
@@ -48,7 +48,7 @@ add-result c =
     let s = c .before .before .before .before .before in
     let g = s .before .before .before .before .pre in
     let was = stepped-small (g .old-ready) (s .step .ensures) in
-    let is = stepped-small (g .new-ready) (c .before .before .step2 .ensures) in
+    let is = stepped-small (g .new-ready) (c .before .step2 .ensures) in
     omega arith
 
 returns-2 : tie.Need-returns-2
@@ -62,11 +62,11 @@ leads-spec =
     run-of-requires
     step-requires
     number-of-requires
+    cast-result
+    returns
     run-of-requires-2
     step-requires-2
     number-of-requires-2
-    cast-result
-    returns
     sub-result
     mul-result
     add-result
