@@ -18,7 +18,9 @@ use Rattle.inclusion_laws.specs.Pairs.{pairs}
 use Rattle.inclusion_laws.specs.Tables.{runnable}
 use Rattle.inclusion_laws.specs.Theorems.{computed}
 use Rattle.compare.specs.declared.Compared.{Compared}
-use Rattle.compare.specs.Going.{Blocks}
+use Rattle.breadth.specs.declared.Found.{Found}
+use Rattle.breadth.specs.Going.{Blocks}
+use Rattle.breadth.specs.Outcome.{foundOf}
 use Rattle.compare.specs.Outcome.{outcomeOf, refusal}
 
 -- the tests before place k held
@@ -58,12 +60,16 @@ module _ (old new : List ℕ) (e : ℕ) (s : List ℕ) {r : Compared} where
         unfolding compare comparing
         too-short l d = refuse 5 d ∙ (rw (p, q, lt-ltb e (getD old 0 0) h, lt-ltb e (getD new 0 0) k, ← c, not-false x t, ← f, not-false y u, lt-ltb (length s) sequencePlaces l))
 
-        pub found-out : {a b after : List ℕ} → a ≡ block old e → b ≡ block new e → sequencePlaces ≤ length s
-            → outcomeOf r after ≡ answered (searched (pairs a b) (getD old 0 0) sequencePlaces) s → outcomeOf r after ≡ compare old new e s
-        unfolding compare comparing
-        found-out i j l d =
-            d ∙ ap₂ (λ a b. answered (searched (pairs a b) (getD old 0 0) sequencePlaces) s) i j ∙ ap (λ o. answered o s) (sym (computed old new e p q h k))
-            ∙ (rw (p, q, lt-ltb e (getD old 0 0) h, lt-ltb e (getD new 0 0) k, ← c, not-false x t, ← f, not-false y u, le-ltb (length s) sequencePlaces l))
+-- nothing is refused: what the search finds
+pub found-out : (old new : List ℕ) (e : ℕ) (s : List ℕ) → proper old ≡ true → proper new ≡ true → e < getD old 0 0 → e < getD new 0 0
+    → {x y : Bool} → x ≡ comparable (ofTable old) e → not x ≡ false → y ≡ comparable (ofTable new) e → not y ≡ false
+    → {a b after : List ℕ} {f : Found} → a ≡ block old e → b ≡ block new e → sequencePlaces ≤ length s
+    → foundOf f after ≡ answered (searched (pairs a b) (getD old 0 0) sequencePlaces) s
+    → outcomeOf (record { number = 0; «takes_all» = f .«takes_all»; length = f .length }) after ≡ compare old new e s
+unfolding compare comparing
+found-out old new e s p q h k {x} {y} c t f u i j l d =
+    d ∙ ap₂ (λ a b. answered (searched (pairs a b) (getD old 0 0) sequencePlaces) s) i j ∙ ap (λ o. answered o s) (sym (computed old new e p q h k))
+    ∙ (rw (p, q, lt-ltb e (getD old 0 0) h, lt-ltb e (getD new 0 0) k, ← c, not-false x t, ← f, not-false y u, le-ltb (length s) sequencePlaces l))
 
 -- what the search asks
 pub blocks-of : (old new : List ℕ) (e : ℕ) {a b : List ℕ} → proper old ≡ true → proper new ≡ true → e < getD old 0 0 → e < getD new 0 0

@@ -1,7 +1,3 @@
--- The search through pairs as the code makes it: where it stands (Going), its turns (Turn, Try), and what the call answers (Outcome,
--- Call).
-pub mod Going
-pub mod Turn
-pub mod Try
+-- What the call answers: its outcome (Outcome), and its refusals in order (Call).
 pub mod Outcome
 pub mod Call

@@ -18,7 +18,7 @@ use Rattle.inclusion_laws.specs.Pairs.{Pair, Inside, InsideRun, pairs, good-ins
 use Rattle.pairs.specs.Number.{Paired, leadsTo}
 use Rattle.pairs.specs.Leads.{paired, numbered, leads-pair}
 use Rattle.trail.specs.Spells.{Spells, spells-set, spells-new}
-use Rattle.compare.specs.Going.{soundOf, Queued, queued-set, queued-snoc, queue, Going, Trying}
+use Rattle.breadth.specs.Going.{soundOf, Queued, queued-set, queued-snoc, queue, Going, Trying}
 
 module _ {old new : List ℕ} {E : ℕ} {seen met from name : List ℕ} {head tail p a : ℕ} (g : Trying old new E seen met from name head tail p a) where
   abbrev from-x : Option Pair

@@ -16,7 +16,7 @@ use Rattle.inclusion_laws.specs.Pairs.{Pair, Inside, InsideRun, pairs, good-ins
 use Rattle.pairs.specs.Number.{oldAt, newAt, Paired}
 use Rattle.pairs.specs.Leads.{paired, losing-pair}
 use Rattle.trail.specs.Spells.{Spells, root}
-use Rattle.compare.specs.Going.{Blocks, soundOf, Queued, queue, Going, Trying}
+use Rattle.breadth.specs.Going.{Blocks, soundOf, Queued, queue, Going, Trying}
 
 -- the search stands before an entry x
 record Facing (old new : List ℕ) (E : ℕ) (seen met from name : List ℕ) (head tail : ℕ) : Type 0 where

@@ -1,15 +1,15 @@
--- `compare::search` meets its contract. The loop's invariant is `Going`, with the buffer as it was; the measure is how many pairs are left. Assumes nothing.
+-- `breadth::search` meets its contract. The loop's invariant is `Going`, with the buffer as it was; the measure is how many pairs are left. Assumes nothing.
 use mathlib.Core.Path.{_≡_, refl, ap}
 use Prim.Native.Nat.{_-_}
 use native.Mathlib.Omega.{arith}
 use borrow.Author.Needs.{needs}
 use lib.ListN.{length}
 use Rattle.paper.specs.Basics.{sequencePlaces}
-use Rattle.compare.specs.Going.{Going}
-use Rattle.compare.specs.Turn.{go-begin, go-pair}
-use Rattle.compare.specs.Outcome.{none-lost, lost-spelled, lost-short, one-lost, not-losing}
-use Rattle.compare.proofs.search.Statement.{statement}
-use Rattle.compare.proofs.search.Tie as tie
+use Rattle.breadth.specs.Going.{Going}
+use Rattle.breadth.specs.Turn.{go-begin, go-pair}
+use Rattle.breadth.specs.Outcome.{none-lost, lost-spelled, lost-short, one-lost, not-losing}
+use Rattle.breadth.proofs.search.Statement.{statement}
+use Rattle.breadth.proofs.search.Tie as tie
 
 abbrev Inv-loop : tie.InvT-loop
 Inv-loop old new elements sequence₀ seen₀ met₀ from₀ name₀ head₀ tail₀ sequence seen met from name head tail =
