@@ -93,12 +93,11 @@ unfolding all-open
 edit-gives = refl
 
 -- old table, new table, element and sequence buffer: the shade with use* for its model, which loses a panel; no buffer; no such
--- element; no old table; the row, which is text
+-- element, no buffer; no old table, no such element; the row, which is text, no buffer
 abbrev pub comparisons : List (List ℕ × List ℕ × ℕ × List ℕ)
 comparisons =
     let new : List ℕ = tableIn (schemaOf (fileOf (shadeWith (3 ∷ 8 ∷ [])))) in
-    let room : List ℕ = replicate sequencePlaces 0 in
-    (table, new, 0, room) ∷ (table, new, 0, []) ∷ (table, new, 4, room) ∷ ([], new, 0, room) ∷ (table, new, 2, room) ∷ []
+    (table, new, 0, replicate sequencePlaces 0) ∷ (table, new, 0, []) ∷ (table, new, 4, []) ∷ ([], new, 4, []) ∷ (table, new, 2, []) ∷ []
 
 pub compare-gives : map (λ (i : List ℕ × List ℕ × ℕ × List ℕ). compare (i .0) (i .1) (i .2) (i .3) .number) comparisons ≡ compareAnswers
 unfolding all-open
