@@ -109,8 +109,11 @@
  *
  * A call gives the first that applies, in the order that stands with it. shrike_words(number) says an answer in words.
  *
- * A place is the index of a token, from 0. For 7, 8 and 9 it is the start of the element that has the fault, for 10 it is 0, for 11 the
- * later of the two values, for 12 the value that refers to nothing. For other numbers it is 0.
+ * A place is the index of a token, from 0. For 7 and 8 it is the start of the element that has the fault. For 9 it is the first child or
+ * text of that element at which no valid content can begin that way: an empty element's first, a text-only one's first child or second
+ * text, else the first child that the model does not allow after those before it, or a text; or it is the element's end, if the children
+ * before it stop too early. (By a table that was not translated it is the first child that has no next occurrence, else the end.) For 10
+ * it is 0, for 11 the later of the two values, for 12 the value that refers to nothing. For other numbers it is 0.
  */
 #ifndef SHRIKEMUFF_H
 #define SHRIKEMUFF_H

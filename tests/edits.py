@@ -67,11 +67,14 @@ RUNS = [
     ('an empty document', SCHEMA, b'', EDITS, '0 4 0 0\n'),
     ('8,192 tokens without shape', SCHEMA, numbers(*[2] * 8192), EDITS, '0 4 0 8192\n'),
     ('a root that is not the schema\'s', SCHEMA, numbers(9, 12, 165, 2), b'\x80', '0 10 0 4\n'),
-    ('a shade without panels', SCHEMA, numbers(1, 4, 61, 2), EDITS, '0 9 0 4\n'),
+    ('a shade without panels', SCHEMA, numbers(1, 4, 61, 2), EDITS, '0 9 3 4\n'),
     ('a reference to none', SCHEMA, numbers(1, 4, 61, 9, 12, 165, 2, 25, 20, 173, 2, 2), EDITS, '0 12 9 12\n'),
     # "A text-only element now has no text or one [..] and two texts side by side stay a content fault."
     ('a row with nothing in it', SCHEMA, DOC, numbers(2, 7, 0), CHECK + '1 0 0 14\n'),
-    ('a row with two texts', SCHEMA, DOC, numbers(1, 7, 1, 243), CHECK + '1 9 6 15\n'),
+    ('a row with two texts', SCHEMA, DOC, numbers(1, 7, 1, 243), CHECK + '1 9 8 15\n'),
+    # "Answer 9 shall give the first child or text at which no valid content can begin that way"
+    ('a text behind the panel', SCHEMA, DOC, numbers(1, 10, 1, 243), CHECK + '1 9 10 15\n'),
+    ('a text in the use', SCHEMA, DOC, numbers(1, 13, 1, 243), CHECK + '1 9 13 15\n'),
     # a broken edit file: "lines already printed stand"
     ('no edit', SCHEMA, DOC, b'', CHECK),
     ('one edit', SCHEMA, DOC, REMOVED, CHECK + ROW),

@@ -139,7 +139,7 @@ static void checks(void) {
     JUDGED(check(table, TABLE, NULL, 0, SHADE), 4, 0);
     BYTES(doc, due, sizeof doc);
     JUDGED(check(table, TABLE, no_text, 14, 14), 0, 0);
-    JUDGED(check(table, TABLE, two_texts, 16, 16), 9, 6);
+    JUDGED(check(table, TABLE, two_texts, 16, 16), 9, 8);
 }
 
 static void edits(void) {
@@ -147,7 +147,7 @@ static void edits(void) {
     fill(doc, shade, SHADE);
     fill(due, shade, SHADE);
     /* refusals: the used length comes back as it was given, and nothing is written */
-    ANSWERED(edit(table, TABLE, doc, PLACES, SHADE, 1, 7, shade + 7, 1), 9, 6, SHADE, 0);
+    ANSWERED(edit(table, TABLE, doc, PLACES, SHADE, 1, 7, shade + 7, 1), 9, 8, SHADE, 0);
     ANSWERED(edit(table, TABLE, doc, PLACES, SHADE, 3, 3, panel, PANEL), 12, 9, SHADE, 0);
     ANSWERED(edit(table, TABLE, doc, PLACES, OVER + SHADE, 2, 10, NULL, 0), 4, 0, OVER + SHADE, 0);
     ANSWERED(edit(table, TABLE, doc, PLACES, UINT64_MAX, 2, 10, NULL, 0), 4, 0, UINT64_MAX, 0);

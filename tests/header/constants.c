@@ -61,14 +61,14 @@ static void words(void) {
 static void kinds_of_elements(void) {
     SCHEMA(SHRIKE_DONE, 1, 0, SHRIKE_EMPTY, 0);
     DOCUMENT(SHRIKE_DONE, 0, S(0), E);
-    DOCUMENT(SHRIKE_CONTENT, 0, S(0), T(9), E);
+    DOCUMENT(SHRIKE_CONTENT, 1, S(0), T(9), E);
     SCHEMA(SHRIKE_DONE, 1, 0, SHRIKE_TEXT_ONLY, 0);
     DOCUMENT(SHRIKE_DONE, 0, S(0), T(9), E);
     DOCUMENT(SHRIKE_DONE, 0, S(0), E);
-    DOCUMENT(SHRIKE_CONTENT, 0, S(0), T(9), T(9), E);
+    DOCUMENT(SHRIKE_CONTENT, 2, S(0), T(9), T(9), E);
     SCHEMA(SHRIKE_DONE, 1, 0, SHRIKE_MODEL, 2, SHRIKE_OPTIONAL, NAME(0), 0);
     DOCUMENT(SHRIKE_DONE, 0, S(0), S(0), E, E);
-    DOCUMENT(SHRIKE_CONTENT, 0, S(0), T(9), E);
+    DOCUMENT(SHRIKE_CONTENT, 1, S(0), T(9), E);
 }
 
 /* A root whose model has n symbols, with empty elements 1 and 2: which of their runs it takes, as 1 for nothing, 2 for "1", 4 for "2",

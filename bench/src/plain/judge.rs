@@ -23,19 +23,15 @@ pub fn judge(table: Table, tokens: &[u32], touched: impl Iterator<Item = usize>,
     }
     let ends = shape::ends(tokens);
     for start in touched {
-        judge_element(table, tokens, &ends, start).map_err(|number| Fault::at(number, start))?;
+        judge_element(table, tokens, &ends, start)?;
     }
     keys::judge(table, tokens, keys)
 }
 
-fn judge_element(table: Table, tokens: &[u32], ends: &[u32], start: usize) -> Result<(), u32> {
-    let element = table.element(number(tokens[start])).ok_or(7u32)?;
-    let content = judge_attributes(element, tokens, start + 1)?;
-    if has_content(element, tokens, ends, content) {
-        Ok(())
-    } else {
-        Err(9)
-    }
+fn judge_element(table: Table, tokens: &[u32], ends: &[u32], start: usize) -> Result<(), Fault> {
+    let element = table.element(number(tokens[start])).ok_or_else(|| Fault::at(7, start))?;
+    let content = judge_attributes(element, tokens, start + 1).map_err(|number| Fault::at(number, start))?;
+    judge_content(element, tokens, ends, content).map_err(|place| Fault::at(9, place))
 }
 
 /// The place after the attributes, if they are good.
@@ -60,9 +56,10 @@ fn judge_attributes(element: Element, tokens: &[u32], mut at: usize) -> Result<u
     }
 }
 
-/// `at` is the place of the first child, text, or the element's end.
-fn has_content(element: Element, tokens: &[u32], ends: &[u32], mut at: usize) -> bool {
-    match element.kind() {
+/// `at` is the place of the first child, text, or the element's end. An error is the place of the first child or text with which content
+/// cannot go on, or of the end.
+fn judge_content(element: Element, tokens: &[u32], ends: &[u32], mut at: usize) -> Result<(), usize> {
+    let good = match element.kind() {
         table::EMPTY => sort(tokens[at]) == END,
         table::TEXT => {
             at += (sort(tokens[at]) == TEXT) as usize;
@@ -72,11 +69,16 @@ fn has_content(element: Element, tokens: &[u32], ends: &[u32], mut at: usize) ->
             let mut run = element.run();
             while sort(tokens[at]) == START {
                 if !run.step(number(tokens[at])) {
-                    return false;
+                    return Err(at);
                 }
                 at = ends[at] as usize + 1;
             }
             sort(tokens[at]) == END && run.may_end()
         }
+    };
+    if good {
+        Ok(())
+    } else {
+        Err(at)
     }
 }

@@ -51,13 +51,13 @@ fn small_shade_is_valid() {
 
 #[test]
 fn edits_of_the_small_shade() {
-    assert_eq!(edited(2, 3, &[]), (9, 0, 15));
+    assert_eq!(edited(2, 3, &[]), (9, 3, 15));
     assert_eq!(edited(2, 10, &[]), (0, 0, 11));
     assert_eq!(edited(2, 7, &[]), (0, 0, 14));
-    assert_eq!(edited(1, 7, &[243]), (9, 6, 15));
+    assert_eq!(edited(1, 7, &[243]), (9, 8, 15));
     assert_eq!(edited(1, 10, &[9, 12, 165, 2]), (11, 12, 15));
     assert_eq!(edited(1, 10, &[9, 12, 173, 2]), (0, 0, 19));
-    assert_eq!(edited(1, 3, &[25, 20, 165, 2]), (9, 0, 15));
+    assert_eq!(edited(1, 3, &[25, 20, 165, 2]), (9, 3, 15));
     assert_eq!(edited(1, 10, &[25, 20, 165, 2]), (0, 0, 19));
     assert_eq!(edited(3, 3, &[9, 12, 173, 2]), (12, 9, 15));
     assert_eq!(edited(5, 3, &[12]), (8, 3, 15));

@@ -16,7 +16,7 @@
 //! assert_eq!(doc[..used], [token::start(0), token::text(1), token::end()]);
 //! assert_eq!(table.check(&doc, used), Ok(()));
 //! let fault = table.edit(&mut doc, used, Edit::insert(1, &[token::text(2)])).unwrap_err();
-//! assert_eq!((fault.refusal, fault.place), (Refusal::Content, 0)); // two texts
+//! assert_eq!((fault.refusal, fault.place), (Refusal::Content, 2)); // a second text
 //! let done = table.edit(&mut doc, used, Edit::remove(1)).unwrap();
 //! assert_eq!((done.used, done.change), (2, -1));
 //! ```

@@ -91,13 +91,13 @@ fn edits() {
     let panel = [9, 12, 173, 2];
     let twin = [9, 12, 165, 2];
     let link = [25, 20, 165, 2];
-    edited(Edit::remove(3), fault(Content, 0), &[]);
+    edited(Edit::remove(3), fault(Content, 3), &[]);
     edited(Edit::remove(10), Ok((11, -4)), &[1, 4, 61, 9, 12, 165, 17, 243, 2, 2, 2]);
     edited(Edit::remove(7), Ok((14, -1)), &[1, 4, 61, 9, 12, 165, 17, 2, 2, 25, 20, 165, 2, 2]);
-    edited(Edit::insert(7, &[243]), fault(Content, 6), &[]);
+    edited(Edit::insert(7, &[243]), fault(Content, 8), &[]);
     edited(Edit::insert(10, &twin), fault(IdTwice, 12), &[]);
     edited(Edit::insert(10, &panel), Ok((19, 4)), &[1, 4, 61, 9, 12, 165, 17, 243, 2, 2, 9, 12, 173, 2, 25, 20, 165, 2, 2]);
-    edited(Edit::insert(3, &link), fault(Content, 0), &[]);
+    edited(Edit::insert(3, &link), fault(Content, 3), &[]);
     edited(Edit::insert(10, &link), Ok((19, 4)), &[1, 4, 61, 9, 12, 165, 17, 243, 2, 2, 25, 20, 165, 2, 25, 20, 165, 2, 2]);
     edited(Edit::replace(3, &panel), fault(NoId, 9), &[]);
     edited(Edit::drop(3, &[12]), fault(Attributes, 3), &[]);

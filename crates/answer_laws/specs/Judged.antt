@@ -12,7 +12,7 @@ use Rattle.paper.specs.declared.Tok.the-variants.{Start, End, Text, Attr, Value
 use Rattle.paper.specs.Basics.{elem}
 use Rattle.paper.specs.Tokens.{heads, kids}
 use Rattle.paper.specs.Rules.{Rules}
-use Rattle.paper.specs.Judgement.{Answer, none-found, orElse, before, attributesGood, contentGood, elementFault, faultAt, first, startPlace, rootFault, idsOf, refsOf, valueIn, repeated, dangling, keyFault, judge}
+use Rattle.paper.specs.Judgement.{Answer, none-found, orElse, before, attributesGood, contentGood, elementFault, faultAt, first, placeOf, rootFault, idsOf, refsOf, valueIn, repeated, dangling, keyFault, judge}
 
 -- one of the list is the first, or one of the others
 elem-cons : (n x : ℕ) (l : List ℕ) → T (elem n (x ∷ l)) → (n ≡ x) ⊎ T (elem n l)
@@ -70,10 +70,10 @@ module _ (R : Rules) where
   fault-number (Value n ∷ d) = tt
   fault-number (Bad ∷ d) = tt
 
-  first-judged : (J : ℕ → Bool) (i : ℕ) (d : List Tok) → Judged (first (elementFault R) startPlace J i d)
+  first-judged : (J : ℕ → Bool) (i : ℕ) (d : List Tok) → Judged (first (elementFault R) (placeOf R) J i d)
   first-judged J i [] = inl refl
   first-judged J i (x ∷ d) =
-      else-judged (cond (J i) (faultAt (elementFault R) (x ∷ d)) 0) i (first (elementFault R) startPlace J (suc i) d) (by (J i)) (first-judged J (suc i) d)
+      else-judged (cond (J i) (faultAt (elementFault R) (x ∷ d)) 0) (placeOf R (faultAt (elementFault R) (x ∷ d)) i (x ∷ d)) (first (elementFault R) (placeOf R) J (suc i) d) (by (J i)) (first-judged J (suc i) d)
     where
       by : (b : Bool) → T (elem (cond b (faultAt (elementFault R) (x ∷ d)) 0) (0 ∷ placed))
       by true = fault-number (x ∷ d)
@@ -111,7 +111,7 @@ dangling-judged ids (p ∷ l) = go (elem (p .1) ids) (dangling-judged ids l)
 pub judge-judged : (R : Rules) (J : ℕ → Bool) (d : List Tok) → Judged (judge R J d)
 unfolding judge
 judge-judged R J d =
-    before-judged (rootFault R d) (before (first (elementFault R) startPlace J 0 d) (keyFault R d)) (root-judged R d)
-    (before-judged (first (elementFault R) startPlace J 0 d) (keyFault R d) (first-judged R J 0 d)
+    before-judged (rootFault R d) (before (first (elementFault R) (placeOf R) J 0 d) (keyFault R d)) (root-judged R d)
+    (before-judged (first (elementFault R) (placeOf R) J 0 d) (keyFault R d) (first-judged R J 0 d)
     (before-judged (repeated [] (idsOf R d)) (dangling (map valueIn (idsOf R d)) (refsOf R d)) (repeated-judged [] (idsOf R d))
     (dangling-judged (map valueIn (idsOf R d)) (refsOf R d))))

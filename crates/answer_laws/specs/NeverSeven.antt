@@ -19,7 +19,7 @@ use Rattle.paper.specs.Shape.{isElement}
 use Rattle.paper.specs.Trees.{Given, Forest, nil, txt, elem, flatV, flatA, flat}
 use Rattle.paper.specs.Sets.{bit}
 use Rattle.paper.specs.Rules.{Rules, State, start, at, setAt, move, runFrom, ended, ofTable}
-use Rattle.paper.specs.Judgement.{Answer, none-found, orElse, before, attributesGood, contentGood, noText, textOrNone, named, elementFault, first, startPlace, rootFault, idsOf, refsOf, valueIn, repeated, dangling, keyFault, judge, whole}
+use Rattle.paper.specs.Judgement.{Answer, none-found, orElse, before, attributesGood, contentGood, noText, textOrNone, named, elementFault, first, placeOf, rootFault, idsOf, refsOf, valueIn, repeated, dangling, keyFault, judge, whole}
 use Rattle.paper_laws.specs.Basics.{find-some}
 use Rattle.table_laws.specs.Parts.{table-parts, block-parts, name-below}
 use Rattle.shape_laws.specs.Tree.{shape-tree}
@@ -97,7 +97,7 @@ module _ (R : Rules) (sound : Sound R) where
   -- ---- the first fault is not 7
 
   abbrev Not7 : List Tok → Type 0
-  Not7 d = (i : ℕ) → first (elementFault R) startPlace whole i d .0 ≢ 7
+  Not7 d = (i : ℕ) → first (elementFault R) (placeOf R) whole i d .0 ≢ 7
 
   values-not7 : (vs : List ℕ) (r : List Tok) → Not7 r → Not7 (flatV vs r)
   values-not7 [] r h = h
@@ -113,7 +113,7 @@ module _ (R : Rules) (sound : Sound R) where
   start-not7 n d r h i = go (ltb n (R .elements)) (attributesGood R n (heads r)) (contentGood R n (kids zero r)) (lt-ltb n (R .elements) d) refl
     where
       go : (a b c : Bool) → a ≡ true → contentGood R n (kids zero r) ≡ c
-          → orElse (cond a (cond b (cond c 0 9) 8) 7) i (first (elementFault R) startPlace whole (suc i) r) .0 ≢ 7
+          → orElse (cond a (cond b (cond c 0 9) 8) 7) (placeOf R (cond a (cond b (cond c 0 9) 8) 7) i (Start n ∷ r)) (first (elementFault R) (placeOf R) whole (suc i) r) .0 ≢ 7
       go true true true p q = h q (suc i)
       go true true false p q = λ z. absurd (omega arith)
       go true false c p q = λ z. absurd (omega arith)
@@ -164,28 +164,35 @@ table-sound t p =
 
 -- ---- the judgement of a document with shape
 
-before-not7 : (a r : Answer) → a .0 ≢ 7 → r .0 ≢ 7 → before a r .0 ≢ 7
-before-not7 a r n m = go (a .0) n
+before-never : (k : ℕ) (a r : Answer) → a .0 ≢ k → r .0 ≢ k → before a r .0 ≢ k
+before-never k a r n m = go (a .0) n
   where
-    go : (f : ℕ) → f ≢ 7 → orElse f (a .1) r .0 ≢ 7
+    go : (f : ℕ) → f ≢ k → orElse f (a .1) r .0 ≢ k
     go zero n = m
     go (suc f) n = n
 
-repeated-not7 : (seen : List ℕ) (l : List (ℕ × ℕ)) → repeated seen l .0 ≢ 7
-repeated-not7 seen [] = λ z. absurd (omega arith)
-repeated-not7 seen (p ∷ l) = go (elemOf (p .1) seen) (repeated-not7 (p .1 ∷ seen) l)
-  where
-    go : (b : Bool) → repeated (p .1 ∷ seen) l .0 ≢ 7 → cond b (11, p .0) (repeated (p .1 ∷ seen) l) .0 ≢ 7
-    go true h = λ z. absurd (omega arith)
-    go false h = h
+-- IDs and references give 0, 11 and 12 alone
+module _ (k : ℕ) (none : 0 ≢ k) where
+  repeated-never : 11 ≢ k → (seen : List ℕ) (l : List (ℕ × ℕ)) → repeated seen l .0 ≢ k
+  repeated-never m seen [] = none
+  repeated-never m seen (p ∷ l) = go (elemOf (p .1) seen) (repeated-never m (p .1 ∷ seen) l)
+    where
+      go : (b : Bool) → repeated (p .1 ∷ seen) l .0 ≢ k → cond b (11, p .0) (repeated (p .1 ∷ seen) l) .0 ≢ k
+      go true h = m
+      go false h = h
 
-dangling-not7 : (ids : List ℕ) (l : List (ℕ × ℕ)) → dangling ids l .0 ≢ 7
-dangling-not7 ids [] = λ z. absurd (omega arith)
-dangling-not7 ids (p ∷ l) = go (elemOf (p .1) ids) (dangling-not7 ids l)
-  where
-    go : (b : Bool) → dangling ids l .0 ≢ 7 → cond b (dangling ids l) (12, p .0) .0 ≢ 7
-    go true h = h
-    go false h = λ z. absurd (omega arith)
+  dangling-never : 12 ≢ k → (ids : List ℕ) (l : List (ℕ × ℕ)) → dangling ids l .0 ≢ k
+  dangling-never m ids [] = none
+  dangling-never m ids (p ∷ l) = go (elemOf (p .1) ids) (dangling-never m ids l)
+    where
+      go : (b : Bool) → dangling ids l .0 ≢ k → cond b (dangling ids l) (12, p .0) .0 ≢ k
+      go true h = h
+      go false h = m
+
+  pub keys-never : 11 ≢ k → 12 ≢ k → (R : Rules) (d : List Tok) → keyFault R d .0 ≢ k
+  keys-never m n R d =
+      before-never k (repeated [] (idsOf R d)) (dangling (map valueIn (idsOf R d)) (refsOf R d)) (repeated-never m [] (idsOf R d))
+      (dangling-never n (map valueIn (idsOf R d)) (refsOf R d))
 
 pub document-not7 : (R : Rules) → Sound R → (d : List Tok) → isElement d ≡ true → judge R whole d .0 ≢ 7
 unfolding judge
@@ -193,17 +200,15 @@ document-not7 R sound d e =
     let t = shape-tree d e in
     rw (t .tokens) (by-root (t .name) (flatA (t .attributes) (flat (t .content) (End ∷ []))) (λ h. forest-not7 R sound (elem (t .name) (t .attributes) (t .content) nil) [] (h, tt) (λ i z. absurd (omega arith)) 0))
   where
-    by-root : (n : ℕ) (r : List Tok) → (n < R .elements → first (elementFault R) startPlace whole 0 (Start n ∷ r) .0 ≢ 7)
-        → before (rootFault R (Start n ∷ r)) (before (first (elementFault R) startPlace whole 0 (Start n ∷ r)) (keyFault R (Start n ∷ r))) .0 ≢ 7
+    by-root : (n : ℕ) (r : List Tok) → (n < R .elements → first (elementFault R) (placeOf R) whole 0 (Start n ∷ r) .0 ≢ 7)
+        → before (rootFault R (Start n ∷ r)) (before (first (elementFault R) (placeOf R) whole 0 (Start n ∷ r)) (keyFault R (Start n ∷ r))) .0 ≢ 7
     by-root n r h = go (eqb n (R .root)) refl
       where
         go : (b : Bool) → eqb n (R .root) ≡ b
-            → before (cond b none-found (10, 0)) (before (first (elementFault R) startPlace whole 0 (Start n ∷ r)) (keyFault R (Start n ∷ r))) .0 ≢ 7
+            → before (cond b none-found (10, 0)) (before (first (elementFault R) (placeOf R) whole 0 (Start n ∷ r)) (keyFault R (Start n ∷ r))) .0 ≢ 7
         go false p = λ z. absurd (omega arith)
         go true p =
             let same = eqb-true n (R .root) p in
             let below = sound .root-declared in
-            before-not7 (first (elementFault R) startPlace whole 0 (Start n ∷ r)) (keyFault R (Start n ∷ r)) (h (rw same below))
-            (before-not7 (repeated [] (idsOf R (Start n ∷ r))) (dangling (map valueIn (idsOf R (Start n ∷ r))) (refsOf R (Start n ∷ r)))
-            (repeated-not7 [] (idsOf R (Start n ∷ r)))
-            (dangling-not7 (map valueIn (idsOf R (Start n ∷ r))) (refsOf R (Start n ∷ r))))
+            before-never 7 (first (elementFault R) (placeOf R) whole 0 (Start n ∷ r)) (keyFault R (Start n ∷ r)) (h (rw same below))
+            (keys-never 7 (λ z. omega arith) (λ z. omega arith) (λ z. omega arith) R (Start n ∷ r))

@@ -13,7 +13,7 @@ use Rattle.paper.specs.declared.Tok.{Tok}
 use Rattle.paper.specs.declared.Tok.the-variants.{Start, End, Text, Attr, Value, Bad}
 use Rattle.paper.specs.Basics.{every}
 use Rattle.paper.specs.Sets.{bit}
-use Rattle.paper.specs.Tokens.{tokOf, toks, heads, kids, values}
+use Rattle.paper.specs.Tokens.{tokOf, toks, heads, kids, childAt, values}
 use Rattle.paper.specs.Table.{block, cell, allowedAt, requiredAt, idrefsAt, within}
 use Rattle.paper.specs.Rules.{ofTable}
 use Rattle.paper.specs.Judgement.{present, eachAttr, attributesGood}
@@ -73,11 +73,12 @@ module _ (m : Met) where
   pub finish-is : (required : ℕ) {y : Bool} → y ≡ within required (m .set) → m .good && not (eqb (m .takes) 1) && y ≡ finish required m
   finish-is required e = rw e
 
--- the answer of the pass: whether the attributes are good, and a place behind them
+-- the answer of the pass: whether the attributes are good, and a place behind them, where the same children stand at the same places
 pub record Judged (table : List ℕ) (e : ℕ) (doc : List ℕ) (used at : ℕ) (r : Front) : Type 0 where
   pub good-is : r .good ≡ attributesGood (ofTable table) e (heads (drop at (toks (take used doc))))
   pub within : r .after ≤ used
   pub same : kids zero (drop (r .after) (toks (take used doc))) ≡ kids zero (drop at (toks (take used doc)))
+  pub places : (j : ℕ) → r .after + childAt j zero (drop (r .after) (toks (take used doc))) ≡ at + childAt j zero (drop at (toks (take used doc)))
 
 -- ---- what is left to show, of the heads h behind what was passed
 
@@ -190,6 +191,7 @@ pub record Passing (table : List ℕ) (e : ℕ) (doc : List ℕ) (used at requir
   pub here : i ≤ used
   pub left : attributesGood (ofTable table) e (heads (drop at (toks (take used doc)))) ≡ shows required allowed idrefs m (heads (drop i (toks (take used doc))))
   pub same : kids zero (drop i (toks (take used doc))) ≡ kids zero (drop at (toks (take used doc)))
+  pub places : (j : ℕ) → i + childAt j zero (drop i (toks (take used doc))) ≡ at + childAt j zero (drop at (toks (take used doc)))
 
 module _ (table : List ℕ) (e : ℕ) (doc : List ℕ) (used at : ℕ) where
   abbrev d : List Tok
@@ -197,7 +199,7 @@ module _ (table : List ℕ) (e : ℕ) (doc : List ℕ) (used at : ℕ) where
 
   pub passing-begin : {required allowed idrefs : ℕ} → at ≤ used → required ≡ cell (block table e) requiredAt → allowed ≡ cell (block table e) allowedAt
       → idrefs ≡ cell (block table e) idrefsAt → Passing table e doc used at required allowed idrefs begins at
-  passing-begin h r a i = record { here = h; left = rw (r, a, i) (shows-begin table e (heads (drop at d))); same = refl }
+  passing-begin h r a i = record { here = h; left = rw (r, a, i) (shows-begin table e (heads (drop at d))); same = refl; places = λ j. refl }
 
   module _ {required allowed idrefs : ℕ} {m : Met} {i : ℕ} (c : Passing table e doc used at required allowed idrefs m i) where
     module _ (h : i < used) (l : used ≤ length doc) where
@@ -212,6 +214,7 @@ module _ (table : List ℕ) (e : ℕ) (doc : List ℕ) (used at : ℕ) where
             here = omega arith;
             left = rw add-one (rw (q, shows-attribute _ _ _ m a (heads (drop (suc i) d))) at (c .left));
             same = rw add-one (rw q at (c .same));
+            places = λ j. let p = rw q at (c .places j) in rw add-one (omega arith);
           })
 
       pub passing-value : {y : Bool} {n : Met} → y ≡ valueTok (tokOf (getD doc i 0)) → y ≡ true → n ≡ valueOf m
@@ -222,10 +225,11 @@ module _ (table : List ℕ) (e : ℕ) (doc : List ℕ) (used at : ℕ) where
             here = omega arith;
             left = rw add-one (rw (q, shows-value _ _ _ m (getD doc i 0 / 8) (heads (drop (suc i) d))) at (c .left));
             same = rw add-one (rw q at (c .same));
+            places = λ j. let p = rw q at (c .places j) in rw add-one (omega arith);
           })
 
     ended : {y : Bool} → heads (drop i d) ≡ [] → y ≡ finish required m → Judged table e doc used at (record { good = y; after = i })
-    ended z ey = record { good-is = ey ∙ shows-end _ _ _ m ∙ sym (rw z at (c .left)); within = c .here; same = c .same }
+    ended z ey = record { good-is = ey ∙ shows-end _ _ _ m ∙ sym (rw z at (c .left)); within = c .here; same = c .same; places = c .places }
 
     pub passing-out : {y : Bool} → used ≤ i → y ≡ finish required m → Judged table e doc used at (record { good = y; after = i })
     passing-out h ey = let z : i ≡ used = omega (arith, c .here) in ended (rw (z, rest-none doc used)) ey

@@ -1,6 +1,6 @@
 -- From a child to the next. Assumes nothing.
 use mathlib.Core.Path.{_≡_, refl, ap, _∙_}
-use mathlib.Core.Bool.{false, cond}
+use mathlib.Core.Bool.{cond}
 use mathlib.Core.List.{List, [], _∷_, _++_}
 use Prim.Native.Nat.{ℕ, zero, suc, _+_, _≤_, _<_}
 use native.Mathlib.Numerals.{add-one}
@@ -12,12 +12,12 @@ use lib.ListN.{length, take, drop, getD, length-append, length-drop}
 use lib.Seq.{drop-drop}
 use Rattle.paper.specs.declared.Tok.{Tok}
 use Rattle.paper.specs.declared.Tok.the-variants.{Start, End, Text, Attr, Value, Bad}
-use Rattle.paper.specs.Tokens.{toks, kids, close, starts}
-use Rattle.basic_laws.specs.Bools.{clash}
+use Rattle.paper.specs.Tokens.{toks, close}
+use Rattle.paper.specs.Rules.{State}
 use Rattle.shape_laws.specs.Ends.{rest-none}
 use Rattle.shape_laws.specs.Bridge.{length-toks}
 use Rattle.places.specs.Closing.{closing, closing-length, closed-at, close-le}
-use Rattle.tokens.specs.Sorts.{ends, textTok}
+use Rattle.children.specs.Stop.{modelStop}
 
 -- `closes` has, for each place of the document, the place of the end that closes the element that is open there
 pub record Closed (doc : List ℕ) (used : ℕ) (closes : List ℕ) : Type 0 where
@@ -34,16 +34,22 @@ closed doc used left l e =
       ends = closed-at d used (length-toks doc used l) left e;
     }
 
+-- the same place, counted from one token earlier
+further : (b : List ℕ) (end : ℕ) (s : State) (i c : ℕ) (r : List Tok)
+    → modelStop b end s zero (suc i + suc c) (drop (suc c) r) ≡ modelStop b end s zero (i + suc (suc c)) (drop (suc c) r)
+further b end s i c r = ap (λ p. modelStop b end s zero p (drop (suc c) r)) (omega arith)
+
 -- under an open child, its tokens are passed over up to its end
-kids-under : (k : ℕ) (r : List Tok) → kids (suc k) r ≡ kids zero (drop (suc (close k r)) r)
-kids-under k [] = refl
-kids-under k (Start n ∷ r) = kids-under (suc k) r
-kids-under zero (End ∷ r) = refl
-kids-under (suc k) (End ∷ r) = kids-under k r
-kids-under k (Text n ∷ r) = kids-under k r
-kids-under k (Attr n ∷ r) = kids-under k r
-kids-under k (Value n ∷ r) = kids-under k r
-kids-under k (Bad ∷ r) = kids-under k r
+model-under : (b : List ℕ) (end : ℕ) (s : State) (k i : ℕ) (r : List Tok)
+    → modelStop b end s (suc k) i r ≡ modelStop b end s zero (i + suc (close k r)) (drop (suc (close k r)) r)
+model-under b end s k i [] = refl
+model-under b end s k i (Start n ∷ r) = model-under b end s (suc k) (suc i) r ∙ further b end s i (close (suc k) r) r
+model-under b end s zero i (End ∷ r) = ap (λ p. modelStop b end s zero p r) (omega arith)
+model-under b end s (suc k) i (End ∷ r) = model-under b end s k (suc i) r ∙ further b end s i (close k r) r
+model-under b end s k i (Text n ∷ r) = model-under b end s k (suc i) r ∙ further b end s i (close k r) r
+model-under b end s k i (Attr n ∷ r) = model-under b end s k (suc i) r ∙ further b end s i (close k r) r
+model-under b end s k i (Value n ∷ r) = model-under b end s k (suc i) r ∙ further b end s i (close k r) r
+model-under b end s k i (Bad ∷ r) = model-under b end s k (suc i) r ∙ further b end s i (close k r) r
 
 -- the place behind the element that starts at place i, as the code reads it
 abbrev pub behind : List ℕ → ℕ → ℕ → ℕ
@@ -55,34 +61,26 @@ behind-end closes used i h = rw (lt-ltb (i + 1) used h)
 pub behind-last : (closes : List ℕ) (used i : ℕ) → used ≤ i + 1 → used ≡ behind closes used i
 behind-last closes used i h = rw (le-ltb (i + 1) used h)
 
--- it is further on, and what stands there are the next children
-pub record Next (doc : List ℕ) (used i r : ℕ) : Type 0 where
+-- it is further on, and what stands there are the next children: where they stop is the same
+pub record Next (b doc : List ℕ) (used i r : ℕ) : Type 0 where
   pub on : i < r
   pub here : r ≤ used + 1
-  pub same : kids 1 (drop (suc i) (toks (take used doc))) ≡ kids zero (drop r (toks (take used doc)))
+  pub same : (s : State) → modelStop b used s 1 (suc i) (drop (suc i) (toks (take used doc))) ≡ modelStop b used s zero r (drop r (toks (take used doc)))
 
-pub next-is : (doc : List ℕ) (used : ℕ) (closes : List ℕ) → Closed doc used closes → used ≤ length doc → (i : ℕ) → i < used
-    → Next doc used i (behind closes used i)
-next-is doc used closes c l i h = elim (decLt (i + 1) used) [
+pub next-is : (b doc : List ℕ) (used : ℕ) (closes : List ℕ) → Closed doc used closes → used ≤ length doc → (i : ℕ) → i < used
+    → Next b doc used i (behind closes used i)
+next-is b doc used closes c l i h = elim (decLt (i + 1) used) [
   | yes g ↦
       let e : getD closes (i + 1) 0 ≡ suc i + close zero (drop (suc i) d) = c .ends (i + 1) g ∙ rw add-one in
       let z : suc i + suc (close zero (drop (suc i) d)) ≡ behind closes used i = omega (arith, behind-end closes used i g) in
       rw (← z) (record {
         on = omega arith;
         here = omega (arith, close-le zero (drop (suc i) d), length-drop (suc i) d, length-toks doc used l);
-        same = kids-under zero (drop (suc i) d) ∙ ap (kids zero) (drop-drop (suc (close zero (drop (suc i) d))) (suc i) d);
+        same = λ s. model-under b used s zero (suc i) (drop (suc i) d)
+            ∙ ap (modelStop b used s zero (suc i + suc (close zero (drop (suc i) d)))) (drop-drop (suc (close zero (drop (suc i) d))) (suc i) d);
       })
-  | no g ↦ let e : suc i ≡ used = omega arith in rw (← behind-last closes used i (omega arith)) (record { on = h; here = omega arith; same = rw (e, rest-none doc used) })
+  | no g ↦ let e : suc i ≡ used = omega arith in rw (← behind-last closes used i (omega arith)) (record { on = h; here = omega arith; same = λ s. rw (e, rest-none doc used) })
 ]
   where
     d : List Tok
     d = toks (take used doc)
-
--- what is no start, no end and no text is no child
-pub kids-other : (x : Tok) (r : List Tok) → starts x ≡ false → ends x ≡ false → textTok x ≡ false → kids zero (x ∷ r) ≡ kids zero r
-kids-other (Start n) r s e t = clash refl s
-kids-other End r s e t = clash refl e
-kids-other (Text n) r s e t = clash refl t
-kids-other (Attr n) r s e t = refl
-kids-other (Value n) r s e t = refl
-kids-other Bad r s e t = refl

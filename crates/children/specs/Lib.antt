@@ -1,4 +1,6 @@
 -- The passes over the children of one element.
+-- Where children stop, token by token
+pub mod Stop
 -- From a child to the next
 pub mod Closed
 -- Texts alone

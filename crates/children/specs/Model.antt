@@ -1,88 +1,120 @@
 -- The run over the children of an element that has a model. Assumes nothing.
 use mathlib.Core.Path.{_≡_, refl, sym, ap, _∙_}
-use mathlib.Core.Bool.{Bool, true, false, _&&_}
+use mathlib.Core.Bool.{Bool, true, false, not}
 use mathlib.Core.List.{List, [], _∷_}
 use mathlib.Core.Option.{Option, none, some}
 use Prim.Native.Nat.{ℕ, zero, suc, _+_, _-_, _/_, _≤_, _<_}
 use native.Mathlib.Numerals.{add-one}
 use native.Mathlib.Omega.{arith}
+use borrow.Author.Tests.{not-true, not-false}
 use lib.ListN.{length, take, drop, getD, drop-of-length-le}
 use Rattle.paper.specs.declared.Tok.{Tok}
-use Rattle.paper.specs.declared.Tok.the-variants.{Start}
-use Rattle.paper.specs.Tokens.{tokOf, toks, kids, starts}
-use Rattle.paper.specs.Rules.{State, start, runs, ended}
-use Rattle.paper.specs.Judgement.{noText, named}
+use Rattle.paper.specs.declared.Tok.the-variants.{Start, End, Text, Attr, Value, Bad}
+use Rattle.paper.specs.Tokens.{tokOf, toks, starts}
+use Rattle.paper.specs.Rules.{State, start, ended, goesOn}
+use Rattle.basic_laws.specs.Bools.{clash}
 use Rattle.shape_laws.specs.Ends.{rest-next}
 use Rattle.shape_laws.specs.Bridge.{length-toks}
 use Rattle.table.specs.declared.Run.{Run}
-use Rattle.table.specs.Run.{stateOf, inside, Stepped, onward, onward-step}
+use Rattle.table.specs.Run.{stateOf, stepped, inside, Stepped}
 use Rattle.tokens.specs.Sorts.{ends, textTok}
 use Rattle.tokens.specs.Theorems.{start-iff, end-iff, text-iff}
-use Rattle.children.specs.Closed.{Closed, behind, Next, next-is, kids-other}
+use Rattle.children.specs.declared.Stop.{Stop}
+use Rattle.children.specs.declared.Stop.the-variants.{Nowhere, At}
+use Rattle.children.specs.Stop.{stopped, modelStop}
+use Rattle.children.specs.Closed.{Closed, behind, Next, next-is}
 
--- the children are no texts, and the model describes them
-abbrev pub modelled : List ℕ → List Tok → Bool
-modelled b k = noText k && runs b (named k)
+-- ---- no child is left
 
--- the children k are no texts, and the model describes them after those that the run passed
-abbrev pub onwards : List ℕ → Run → List Tok → Bool
-onwards b run k = noText k && ended b (onward b (stateOf run) (named k))
+module _ {good y : Bool} (place : ℕ) (e : y ≡ good) where
+  pub end-none : y ≡ true → Nowhere ≡ stopped good place
+  end-none t = rw (← e, t)
 
--- what the children from place `at` on must be is what those from place i on must, where the run stands
+  pub end-early : y ≡ false → At place ≡ stopped good place
+  end-early f = rw (← e, f)
+
+-- ---- the loop
+
+-- what is no start, no end and no text is passed over
+other : (b : List ℕ) (end : ℕ) (s : State) (x : Tok) (i : ℕ) (r : List Tok) → starts x ≡ false → ends x ≡ false → textTok x ≡ false
+    → modelStop b end s zero i (x ∷ r) ≡ modelStop b end s zero (suc i) r
+other b end s (Start m) i r f g h = clash refl f
+other b end s End i r f g h = clash refl g
+other b end s (Text m) i r f g h = clash refl h
+other b end s (Attr m) i r f g h = refl
+other b end s (Value m) i r f g h = refl
+other b end s Bad i r f g h = refl
+
+-- where the children from place `at` on stop is where those from place i on do, after those that the run passed
 pub record Running (b doc : List ℕ) (used at i : ℕ) (run : Run) : Type 0 where
   pub here : i ≤ used + 1
+  pub state : State
+  pub stands : stateOf run ≡ some state
   pub within : inside b (stateOf run) ≡ true
-  pub left : modelled b (kids zero (drop at (toks (take used doc)))) ≡ onwards b run (kids zero (drop i (toks (take used doc))))
+  pub left : modelStop b used start zero at (drop at (toks (take used doc))) ≡ modelStop b used state zero i (drop i (toks (take used doc)))
 
 module _ (b doc : List ℕ) (used at : ℕ) where
   pub running-begin : {run : Run} → at ≤ used → stateOf run ≡ some start → Running b doc used at at run
-  running-begin h e = record { here = omega arith; within = rw e; left = rw e }
+  running-begin h e = record { here = omega arith; state = start; stands = e; within = rw e; left = refl }
 
   module _ {i : ℕ} {run : Run} (c : Running b doc used at i run) where
     -- no child is left
-    nothing : modelled b (kids zero (drop at (toks (take used doc)))) ≡ onwards b run [] → {r : Bool} → r ≡ ended b (stateOf run)
-        → r ≡ modelled b (kids zero (drop at (toks (take used doc))))
-    nothing z e = e ∙ stays (stateOf run) ∙ sym z
-      where
-        stays : (o : Option State) → ended b o ≡ ended b (onward b o [])
-        stays none = refl
-        stays (some s) = refl
+    ending : (place : ℕ) {r : Stop} → modelStop b used start zero at (drop at (toks (take used doc))) ≡ stopped (ended b (some (c .state))) place
+        → r ≡ stopped (ended b (stateOf run)) place → r ≡ modelStop b used start zero at (drop at (toks (take used doc)))
+    ending place z e = e ∙ ap (λ o. stopped (ended b o) place) (c .stands) ∙ sym z
 
-    pub running-out : {r : Bool} → used ≤ i → used ≤ length doc → r ≡ ended b (stateOf run)
-        → r ≡ modelled b (kids zero (drop at (toks (take used doc))))
-    running-out h l e = nothing (rw (drop-of-length-le (toks (take used doc)) {i = i} (omega (arith, length-toks doc used l))) at (c .left)) e
+    pub running-out : {r : Stop} → used ≤ i → used ≤ length doc → r ≡ stopped (ended b (stateOf run)) used
+        → r ≡ modelStop b used start zero at (drop at (toks (take used doc)))
+    running-out h l e = ending used (rw (drop-of-length-le (toks (take used doc)) {i = i} (omega (arith, length-toks doc used l))) at (c .left)) e
 
     module _ (h : i < used) (l : used ≤ length doc) where
       next : {x : Tok} → tokOf (getD doc i 0) ≡ x
-          → modelled b (kids zero (drop at (toks (take used doc)))) ≡ onwards b run (kids zero (x ∷ drop (suc i) (toks (take used doc))))
+          → modelStop b used start zero at (drop at (toks (take used doc))) ≡ modelStop b used (c .state) zero i (x ∷ drop (suc i) (toks (take used doc)))
       next e = rw (rest-next doc used i h l, e) at (c .left)
 
       module _ {x : Bool} (ex : x ≡ starts (tokOf (getD doc i 0))) where
-        pub running-child : {n : ℕ} (closes : List ℕ) {next : ℕ} {q : Run} → Closed doc used closes → x ≡ true → n ≡ getD doc i 0 / 8
-            → Stepped b run n q → next ≡ behind closes used i → Running b doc used at next q
-        running-child {n} closes {next = r} {q} k t en s er =
-            let x : Next doc used i (behind closes used i) = next-is doc used closes k l i h in
-            rw er (record {
-              here = x .here;
-              within = s .within;
-              left = rw (s .same, ← x .same, onward-step b (stateOf run) n (named (kids 1 (drop (suc i) (toks (take used doc))))))
-                  (next (start-iff (getD doc i 0) .0 (sym ex ∙ t) ∙ ap Start (sym en)));
-            })
+        module _ {n : ℕ} {q : Run} {y : Bool} (t : x ≡ true) (en : n ≡ getD doc i 0 / 8) (s : Stepped b run n q) (ey : y ≡ goesOn (stateOf q)) where
+          -- by where the run stands after the child
+          child : modelStop b used start zero at (drop at (toks (take used doc)))
+              ≡ elim (stateOf q) [ none ↦ At i | some t ↦ modelStop b used t 1 (suc i) (drop (suc i) (toks (take used doc))) ]
+          child =
+              next (start-iff (getD doc i 0) .0 (sym ex ∙ t) ∙ ap Start (sym en))
+              ∙ ap (λ (o : Option State). elim o [ none ↦ At i | some t ↦ modelStop b used t 1 (suc i) (drop (suc i) (toks (take used doc))) ])
+              (sym (s .same ∙ ap (λ o. stepped b o n) (c .stands)))
+
+          pub running-lost : not y ≡ true → At i ≡ modelStop b used start zero at (drop at (toks (take used doc)))
+          running-lost f = sym (child ∙ go (stateOf q) (sym ey ∙ not-true y f))
+            where
+              go : (o : Option State) → goesOn o ≡ false
+                  → elim o [ none ↦ At i | some t ↦ modelStop b used t 1 (suc i) (drop (suc i) (toks (take used doc))) ] ≡ At i
+              go none f = refl
+              go (some t) f = clash refl f
+
+          pub running-child : (closes : List ℕ) {r : ℕ} → not y ≡ false → Closed doc used closes → r ≡ behind closes used i → Running b doc used at r q
+          running-child closes {r} g k er = go (stateOf q) refl (sym ey ∙ not-false y g)
+            where
+              go : (o : Option State) → stateOf q ≡ o → goesOn o ≡ true → Running b doc used at r q
+              go none e g = clash g refl
+              go (some t) e g =
+                  let z : Next b doc used i (behind closes used i) = next-is b doc used closes k l i h in
+                  rw er (record { here = z .here; state = t; stands = e; within = s .within; left = rw e at child ∙ z .same t })
 
         pub running-other : {y z : Bool} → x ≡ false → y ≡ ends (tokOf (getD doc i 0)) → y ≡ false → z ≡ textTok (tokOf (getD doc i 0)) → z ≡ false
             → Running b doc used at (i + 1) run
         running-other f ey g ez k = record {
           here = omega arith;
+          state = c .state;
+          stands = c .stands;
           within = c .within;
-          left = rw add-one (next refl ∙ ap (onwards b run) (kids-other (tokOf (getD doc i 0)) (drop (suc i) (toks (take used doc))) (sym ex ∙ f) (sym ey ∙ g) (sym ez ∙ k)));
+          left = rw add-one (next refl ∙ other b used (c .state) (tokOf (getD doc i 0)) i (drop (suc i) (toks (take used doc))) (sym ex ∙ f) (sym ey ∙ g) (sym ez ∙ k));
         }
 
-      pub running-end : {y r : Bool} → y ≡ ends (tokOf (getD doc i 0)) → y ≡ true → r ≡ ended b (stateOf run)
-          → r ≡ modelled b (kids zero (drop at (toks (take used doc))))
-      running-end ey t er = nothing (next (end-iff (getD doc i 0) .0 (sym ey ∙ t))) er
+      pub running-end : {y : Bool} {r : Stop} → y ≡ ends (tokOf (getD doc i 0)) → y ≡ true → r ≡ stopped (ended b (stateOf run)) i
+          → r ≡ modelStop b used start zero at (drop at (toks (take used doc)))
+      running-end ey t er = ending i (next (end-iff (getD doc i 0) .0 (sym ey ∙ t))) er
 
-      pub running-text : {z : Bool} → z ≡ textTok (tokOf (getD doc i 0)) → z ≡ true → false ≡ modelled b (kids zero (drop at (toks (take used doc))))
+      pub running-text : {z : Bool} → z ≡ textTok (tokOf (getD doc i 0)) → z ≡ true → At i ≡ modelStop b used start zero at (drop at (toks (take used doc)))
       running-text ez t = sym (next (text-iff (getD doc i 0) .0 (sym ez ∙ t)))
 
-      pub child-on : (closes : List ℕ) {next : ℕ} → Closed doc used closes → next ≡ behind closes used i → used - next < used - i
-      child-on closes k en = let x : Next doc used i (behind closes used i) = next-is doc used closes k l i h in rw en (omega (arith, x .on))
+      pub child-on : (closes : List ℕ) {r : ℕ} → Closed doc used closes → r ≡ behind closes used i → used - r < used - i
+      child-on closes k er = let z : Next b doc used i (behind closes used i) = next-is b doc used closes k l i h in rw er (omega (arith, z .on))

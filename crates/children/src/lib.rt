@@ -1,7 +1,7 @@
-// The content of one element: whether its children are as they must be.
+// The content of one element: whether its children are as they must be, and else where they stop to be.
 //
-// One pass over the children, which jumps from a child's start behind its end. Texts are counted; a model is run. The table is a proper
-// one, and nothing is written. Assumes nothing.
+// One pass over the children, which jumps from a child's start behind its end, and is left at the first with which no valid content begins.
+// Texts are counted; a model is run. The table is a proper one, and nothing is written. Assumes nothing.
 use table::Run;
 use table::block_of;
 use table::cell;
@@ -13,14 +13,18 @@ ghost use mathlib.Core.Path.{_≡_};
 ghost use mathlib.Core.Bool.{true};
 ghost use Prim.Native.Nat.{_≤_, _<_};
 ghost use lib.ListN.{length, take, drop, getD};
-ghost use Rattle.paper.specs.Tokens.{toks, kids};
+ghost use Rattle.paper.specs.Tokens.{toks};
 ghost use Rattle.paper.specs.Table.{proper};
-ghost use Rattle.paper.specs.Rules.{ofTable};
-ghost use Rattle.paper.specs.Judgement.{contentGood};
-ghost use Rattle.table.specs.Run.{Ready};
+ghost use Rattle.paper.specs.Rules.{start, ended, ofTable};
+ghost use Rattle.table.specs.Run.{stateOf, inside, Ready};
 ghost use Rattle.children.specs.Closed.{Closed, behind};
-ghost use Rattle.children.specs.Texts.{onlyTexts};
-ghost use Rattle.children.specs.Model.{modelled};
+ghost use Rattle.children.specs.Stop.{stopped, textsStop, modelStop, contentStop};
+
+// Where content stops: nowhere, if it is as it must be; else at the place of a child, of a text or of the element's end.
+pub enum Stop {
+    Nowhere,
+    At(usize),
+}
 
 // The place behind the element that starts at place i.
 fn behind(closes: &[u32], used: usize, i: usize) -> usize
@@ -34,39 +38,52 @@ fn behind(closes: &[u32], used: usize, i: usize) -> usize
     used
 }
 
-// The children that stand from a place on are so many texts or fewer, and nothing else.
-fn only_texts(doc: &[u32], used: usize, at: usize, most: u64) -> bool
+// The children that stand from a place on are to be so many texts or fewer, and nothing else.
+fn texts_stop(doc: &[u32], used: usize, at: usize, most: u64) -> Stop
     requires { ⌜ (used ≤ length (now doc)) × (at ≤ used) ⌝ }
-    ensures { λ r. ⌜ r ≡ onlyTexts most (kids 0 (drop at (toks (take used (now (doc .entry)))))) ⌝ }
+    ensures { λ r. ⌜ r ≡ textsStop most at (drop at (toks (take used (now (doc .entry))))) ⌝ }
 {
     let mut left = most;
     let mut i = at;
     while i < used {
         let t = doc[i];
+        let place = i;
         i += 1;
         if is_end(t) {
             break;
         }
         if is_start(t) {
-            return false;
+            return Stop::At(place);
         }
         if !is_text(t) {
             continue;
         }
         if left == 0 {
-            return false;
+            return Stop::At(place);
         }
         left -= 1;
     }
-    true
+    Stop::Nowhere
+}
+
+// "or the element's end token if the children stop too early": the run, where no child is left, and the place of that token.
+fn end_stop(block: &[u64], run: Run, place: usize) -> Stop
+    requires { ⌜ Ready (now block) ⌝ }
+    requires { ⌜ inside (now block) (stateOf run) ≡ true ⌝ }
+    ensures { λ r. ⌜ r ≡ stopped (ended (now (block .entry)) (stateOf run)) place ⌝ }
+{
+    if run.may_end(block) {
+        return Stop::Nowhere;
+    }
+    Stop::At(place)
 }
 
 // "a model has no text and a child sequence that the expression describes": the children that stand from a place on.
-fn modelled(block: &[u64], doc: &[u32], used: usize, closes: &[u32], at: usize) -> bool
+fn model_stop(block: &[u64], doc: &[u32], used: usize, closes: &[u32], at: usize) -> Stop
     requires { ⌜ Ready (now block) ⌝ }
     requires { ⌜ Closed (now doc) used (now closes) ⌝ }
     requires { ⌜ (used ≤ length (now doc)) × (at ≤ used) ⌝ }
-    ensures { λ r. ⌜ r ≡ modelled (now (block .entry)) (kids 0 (drop at (toks (take used (now (doc .entry)))))) ⌝ }
+    ensures { λ r. ⌜ r ≡ modelStop (now (block .entry)) used start 0 at (drop at (toks (take used (now (doc .entry))))) ⌝ }
 {
     let mut run = Run::begin();
     let mut i = at;
@@ -74,30 +91,33 @@ fn modelled(block: &[u64], doc: &[u32], used: usize, closes: &[u32], at: usize) 
         let t = doc[i];
         if is_start(t) {
             run = run.step(block, number(t));
+            if !run.goes_on() {
+                return Stop::At(i);
+            }
             i = behind(closes, used, i);
             continue;
         }
         if is_end(t) {
-            break;
+            return end_stop(block, run, i);
         }
         if is_text(t) {
-            return false;
+            return Stop::At(i);
         }
         i += 1;
     }
-    run.may_end(block)
+    end_stop(block, run, used)
 }
 
 // "content (9)": the children that stand from a place on. Below a model's, the kind is how many texts there may be.
-pub fn content(table: &[u64], e: usize, doc: &[u32], used: usize, closes: &[u32], at: usize) -> bool
+pub fn content(table: &[u64], e: usize, doc: &[u32], used: usize, closes: &[u32], at: usize) -> Stop
     requires { ⌜ (proper (now table) ≡ true) × (e < getD (now table) 0 0) ⌝ }
     requires { ⌜ Closed (now doc) used (now closes) ⌝ }
     requires { ⌜ (used ≤ length (now doc)) × (at ≤ used) ⌝ }
-    ensures { λ r. ⌜ r ≡ contentGood (ofTable (now (table .entry))) e (kids 0 (drop at (toks (take used (now (doc .entry)))))) ⌝ }
+    ensures { λ r. ⌜ r ≡ contentStop (ofTable (now (table .entry))) e at (drop at (toks (take used (now (doc .entry))))) ⌝ }
 {
     let kind = cell(table, e, paper::KIND_AT);
     if kind < paper::MODEL as u64 {
-        return only_texts(doc, used, at, kind);
+        return texts_stop(doc, used, at, kind);
     }
-    modelled(block_of(table, e), doc, used, closes, at)
+    model_stop(block_of(table, e), doc, used, closes, at)
 }

@@ -13,6 +13,7 @@ pub mod Star
 pub mod Glushkov
 pub mod Useful
 pub mod Matching
+pub mod Begins
 pub mod Ambiguity
 pub mod Below
 pub mod Decide

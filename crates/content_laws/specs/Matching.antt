@@ -15,7 +15,7 @@ use Rattle.paper.specs.Matching.{Reading, spot, both, either, maybe, many, some
 use Rattle.basic_laws.specs.Tests.{or-iff, and-iff, tests}
 
 -- what can still come after a mark
-abbrev Rest : Reading → List ℕ → Type 0
+abbrev pub Rest : Reading → List ℕ → Type 0
 Rest (spot m a) w = T m × (w ≡ [])
 Rest (both r q) w = Split (Rest r) (Matches (erase q)) w ⊎ Rest q w
 Rest (either r q) w = Rest r w ⊎ Rest q w
@@ -164,7 +164,7 @@ next-shift (maybe r) h a w (inr (t, m)) = ⊎-elim (λ c. absurd (cons≢nil c))
 next-shift (many r) h a w x = next-loop r h a w (next-shift r (h || over r) a) x
 next-shift (often r) h a w x = next-loop r h a w (next-shift r (h || over r) a) (⊎-map (λ y. y) (λ (t, m). (t, plus-star m)) x)
 
-goes-iff : (r : Reading) (w : List ℕ) → T (goes r w) ↔ Rest r w
+pub goes-iff : (r : Reading) (w : List ℕ) → T (goes r w) ↔ Rest r w
 goes-iff r [] = (over-rest r, rest-over r)
 goes-iff r (a ∷ w) =
     let (to, of) = goes-iff (shift false a r) w in

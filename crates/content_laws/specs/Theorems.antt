@@ -7,8 +7,9 @@ use mathlib.Core.List.{List, [], _∷_, _++_, map}
 use lib.Dec.{T}
 use Rattle.paper.specs.Expressions.{Expr, count, nameAt, Matches, Marked, Ambiguous}
 use Rattle.content_laws.specs.Marked.{matches-marked}
-use Rattle.paper.specs.Matching.{matches}
+use Rattle.paper.specs.Matching.{matches, begins}
 use Rattle.content_laws.specs.Matching.{matches-iff}
+use Rattle.content_laws.specs.Begins.{begins-iff}
 use Rattle.paper.specs.Sets.{nullable, first, last, follow, ambiguous, bit, firstWord, lastWord, followWord}
 use Rattle.content_laws.specs.Within.{Within}
 use Rattle.paper.specs.Rules.{start, at}
@@ -27,6 +28,10 @@ marking = matches-marked
 -- The test by marks that move says what e means, ambiguous or not.
 pub matching : (e : Expr) (w : List ℕ) → T (matches e w) ↔ Matches e w
 matching = matches-iff
+
+-- .. and that of a beginning says whether a word of e begins so.
+pub beginning : (e : Expr) (w : List ℕ) → T (begins e w) ↔ ((v : List ℕ) × Matches e (w ++ v))
+beginning = begins-iff
 
 -- A. The marked words are the walks along Glushkov's sets.
 pub theorem-A : (b : ℕ) (e : Expr) (p : List ℕ) → Marked b e p ↔ Walk b e start p

@@ -102,6 +102,12 @@ check-by-expressions = proved.check-by-expressions shrikes faithful
 pub check-valid : promised.CheckValid shrikes
 check-valid = proved.check-valid shrikes faithful
 
+pub check-points : promised.CheckPoints shrikes
+check-points = proved.check-points shrikes faithful
+
+pub edit-points : promised.EditPoints shrikes
+edit-points = proved.edit-points shrikes faithful
+
 pub edit-leaves : promised.EditLeaves shrikes
 edit-leaves = proved.edit-leaves shrikes faithful
 

@@ -9,16 +9,16 @@ use lib.Seq.{take-take}
 use Rattle.paper.specs.declared.Tok.{Tok}
 use Rattle.paper.specs.Tokens.{toks, starts, balanced, parent, touched}
 use Rattle.paper.specs.Rules.{ofTable}
-use Rattle.paper.specs.Judgement.{Answer, faultAt, first, startPlace, elementFault, judge, orElse}
+use Rattle.paper.specs.Judgement.{Answer, first, placeOf, elementFault, judge, orElse}
 use Rattle.shape_laws.specs.Bridge.{toks-take, length-toks}
 use Rattle.shape_laws.specs.Touch.{inside, touched-is, parentOf}
 use Rattle.keys.specs.declared.Fault.{Fault}
-use Rattle.judge.specs.Elements.{found, firstIn, first-same}
+use Rattle.judge.specs.Elements.{numberAt, faultOf, found-first, found-none, firstIn, first-same}
 use Rattle.judge.specs.Check.{judgedWith, judged-is}
 
 -- the first fault among the touched elements
 abbrev pub touchedFirst : (table doc : List ℕ) (used at n : ℕ) → Answer
-touchedFirst table doc used at n = first (elementFault (ofTable table)) startPlace (touched at n (toks (take used doc))) 0 (toks (take used doc))
+touchedFirst table doc used at n = first (elementFault (ofTable table)) (placeOf (ofTable table)) (touched at n (toks (take used doc))) 0 (toks (take used doc))
 
 -- ---- the parent
 
@@ -57,21 +57,27 @@ module _ (table doc : List ℕ) (used at n : ℕ) (l : used ≤ length doc) (h :
   touched-alone g e =
       e
       ∙ sym
-      (first-same (elementFault (ofTable table)) startPlace (touched at n (toks (take used doc))) (inside at n) 0 (toks (take used doc))
+      (first-same (elementFault (ofTable table)) (placeOf (ofTable table)) (touched at n (toks (take used doc))) (inside at n) 0 (toks (take used doc))
       (λ j k. ap (λ b. b || inside at n (0 + j)) (no-parent g (0 + j))))
 
-  module _ (g : p < at) {k : ℕ} (ek : k ≡ faultAt (elementFault (ofTable table)) (drop p (toks (take used doc)))) where
-    both : orElse k p (firstIn table doc used at (at + n)) ≡ touchedFirst table doc used at n
+  module _ (g : p < at) {a : Answer} (ea : a ≡ faultOf table doc used p) where
+    abbrev number : ℕ
+    number = numberAt table doc used p
+
+    abbrev place : ℕ
+    place = placeOf (ofTable table) number p (drop p (toks (take used doc)))
+
+    both : orElse number place (firstIn table doc used at (at + n)) ≡ touchedFirst table doc used at n
     both =
         let z : parentOf (toks (take at doc)) < length (toks (take at doc)) = omega (arith, length-toks doc at (omega arith)) in
         let y : parent (take at (toks (take used doc))) p ≡ true = rw (before-is, ep) (parent-is (toks (take at doc)) z) in
-        ap (λ x. orElse x p (firstIn table doc used at (at + n))) ek ∙ sym (touched-is (elementFault (ofTable table)) at n p (toks (take used doc)) y)
+        sym (touched-is (elementFault (ofTable table)) (placeOf (ofTable table)) at n p (toks (take used doc)) y)
 
-    pub touched-parent : (k ≡ 0 → ⊥) → (k, p) ≡ touchedFirst table doc used at n
-    touched-parent f = found k p (firstIn table doc used at (at + n)) f ∙ both
+    pub touched-parent : (a .0 ≡ 0 → ⊥) → a ≡ touchedFirst table doc used at n
+    touched-parent f = found-first number place (firstIn table doc used at (at + n)) ea f ∙ both
 
-    pub touched-piece : {f : Fault} → k ≡ 0 → (f .number, f .place) ≡ firstIn table doc used at (at + n) → (f .number, f .place) ≡ touchedFirst table doc used at n
-    touched-piece z e = e ∙ ap (λ x. orElse x p (firstIn table doc used at (at + n))) (sym z) ∙ both
+    pub touched-piece : {f : Fault} → a .0 ≡ 0 → (f .number, f .place) ≡ firstIn table doc used at (at + n) → (f .number, f .place) ≡ touchedFirst table doc used at n
+    touched-piece z e = e ∙ ap (λ x. orElse x place (firstIn table doc used at (at + n))) (sym (found-none number place ea z)) ∙ both
 
 -- the judgement
 pub judged-touched : (table doc : List ℕ) (used at n : ℕ) {f r : Fault} → (f .number, f .place) ≡ touchedFirst table doc used at n

@@ -5,7 +5,7 @@
 // Assumes nothing.
 use copying::copy_tokens;
 use form::form_of;
-use judge::element_number;
+use judge::element_fault;
 use judge::first_fault;
 use judge::judged_with;
 use keys::Fault;
@@ -76,12 +76,9 @@ fn touched_fault(
     if at <= parent {
         return first_fault(table, doc, used, closes, at, at + coming);
     }
-    let number = element_number(table, doc, used, closes, parent);
-    if number != paper::DONE {
-        return Fault {
-            number,
-            place: parent as u32,
-        };
+    let over = element_fault(table, doc, used, closes, parent);
+    if over.number != paper::DONE {
+        return over;
     }
     first_fault(table, doc, used, closes, at, at + coming)
 }

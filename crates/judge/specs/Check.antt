@@ -14,7 +14,7 @@ use Rattle.paper.specs.Tokens.{tokOf, toks, starts}
 use Rattle.paper.specs.Shape.{shapeOf, isElement, shallow}
 use Rattle.paper.specs.Table.{proper}
 use Rattle.paper.specs.Rules.{ofTable}
-use Rattle.paper.specs.Judgement.{Answer, before, elementFault, first, startPlace, whole, rootFault, keyFault, judge, checking, check}
+use Rattle.paper.specs.Judgement.{Answer, before, elementFault, first, placeOf, whole, rootFault, keyFault, judge, checking, check}
 use Rattle.basic_laws.specs.Bools.{clash}
 use Rattle.shape_laws.specs.Ends.{rest-next}
 use Rattle.tokens.specs.Theorems.{start-iff}
@@ -77,7 +77,7 @@ module _ (table doc : List ℕ) (used : ℕ) (f : Fault) {number : ℕ} (er : (n
 
 -- judging some places is `judge`
 pub judged-is : (table doc : List ℕ) (used : ℕ) (judged : ℕ → Bool)
-    → judgedWith table doc used (first (elementFault (ofTable table)) startPlace judged 0 (toks (take used doc))) ≡ judge (ofTable table) judged (toks (take used doc))
+    → judgedWith table doc used (first (elementFault (ofTable table)) (placeOf (ofTable table)) judged 0 (toks (take used doc))) ≡ judge (ofTable table) judged (toks (take used doc))
 unfolding judge
 judged-is table doc used judged = refl
 

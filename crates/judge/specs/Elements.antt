@@ -11,64 +11,93 @@ use lib.Dec.{leb, ltb}
 use lib.ListN.{length, take, drop, getD, drop-of-length-le}
 use Rattle.paper.specs.declared.Tok.{Tok}
 use Rattle.paper.specs.declared.Tok.the-variants.{Start, End, Text, Attr, Value, Bad}
-use Rattle.paper.specs.Tokens.{tokOf, toks, heads, kids, starts}
+use Rattle.paper.specs.Tokens.{tokOf, toks, heads, kids, childAt, starts}
 use Rattle.paper.specs.Rules.{ofTable}
-use Rattle.paper.specs.Judgement.{Answer, none-found, orElse, contentGood, elementFault, faultAt, first, startPlace, whole}
+use Rattle.paper.specs.Judgement.{Answer, none-found, orElse, contentGood, contentBegun, stopAfter, elementFault, faultAt, first, placeOf, whole}
 use Rattle.basic_laws.specs.Bools.{clash}
 use Rattle.shape_laws.specs.Ends.{rest-next}
 use Rattle.shape_laws.specs.Bridge.{length-toks}
 use Rattle.attributes.specs.declared.Front.{Front}
 use Rattle.attributes.specs.Attributes.{Judged}
 use Rattle.tokens.specs.Theorems.{start-iff}
+use Rattle.children.specs.declared.Stop.{Stop}
+use Rattle.children.specs.declared.Stop.the-variants.{Nowhere, At}
+use Rattle.children.specs.Stop.{stopped, contentStop, is-nowhere, is-at}
+use Rattle.keys.specs.declared.Fault.{Fault}
 
 -- ---- one element
 
--- by its name, where its attributes begin at a place of the document
-abbrev pub faultFrom : (table : List ℕ) (e : ℕ) (doc : List ℕ) (used at : ℕ) → ℕ
-faultFrom table e doc used at = elementFault (ofTable table) e (heads (drop at (toks (take used doc)))) (kids zero (drop at (toks (take used doc))))
+-- the number for an element by its name, where its attributes begin at a place of the document
+abbrev pub numberFrom : (table : List ℕ) (e : ℕ) (doc : List ℕ) (used at : ℕ) → ℕ
+numberFrom table e doc used at = elementFault (ofTable table) e (heads (drop at (toks (take used doc)))) (kids zero (drop at (toks (take used doc))))
 
-module _ (table : List ℕ) (e : ℕ) (doc : List ℕ) (used at : ℕ) where
-  pub fault-name : getD table 0 0 ≤ e → 7 ≡ faultFrom table e doc used at
+-- its number and place, where it starts at place i; 0 at 0 for no fault
+abbrev pub faultFrom : (table : List ℕ) (e : ℕ) (doc : List ℕ) (used i : ℕ) → Answer
+faultFrom table e doc used i =
+    let number : ℕ = numberFrom table e doc used (i + 1) in
+    orElse number (placeOf (ofTable table) number i (Start e ∷ drop (i + 1) (toks (take used doc)))) none-found
+
+module _ (table : List ℕ) (e : ℕ) (doc : List ℕ) (used i : ℕ) where
+  pub fault-name : getD table 0 0 ≤ e → (7, i) ≡ faultFrom table e doc used i
   unfolding elementFault
   fault-name h = rw (le-ltb e (getD table 0 0) h)
 
-  module _ (h : e < getD table 0 0) {r : Front} (j : Judged table e doc used at r) where
-    pub fault-attributes : not (r .good) ≡ true → 8 ≡ faultFrom table e doc used at
+  module _ (h : e < getD table 0 0) {r : Front} (j : Judged table e doc used (i + 1) r) where
+    pub fault-attributes : not (r .good) ≡ true → (8, i) ≡ faultFrom table e doc used i
     unfolding elementFault
     fault-attributes b = rw (lt-ltb e (getD table 0 0) h, ← j .good-is, not-true (r .good) b)
 
-    module _ (b : not (r .good) ≡ false) {y : Bool} (ey : y ≡ contentGood (ofTable table) e (kids zero (drop (r .after) (toks (take used doc))))) where
-      content-is : y ≡ contentGood (ofTable table) e (kids zero (drop at (toks (take used doc))))
-      content-is = ey ∙ ap (contentGood (ofTable table) e) (j .same)
+    module _ (b : not (r .good) ≡ false) {q : Stop} (eq : q ≡ contentStop (ofTable table) e (r .after) (drop (r .after) (toks (take used doc)))) where
+      -- behind the attributes stand the children of the element
+      content-is : q ≡ contentStop (ofTable table) e (i + 1) (drop (i + 1) (toks (take used doc)))
+      content-is =
+          let R = ofTable table in
+          let d = toks (take used doc) in
+          let k = kids zero (drop (i + 1) d) in
+          eq
+          ∙ ap (λ k. stopped (contentGood R e k) (r .after + childAt (stopAfter (contentBegun R e) k) zero (drop (r .after) d))) (j .same)
+          ∙ ap (stopped (contentGood R e k)) (j .places (stopAfter (contentBegun R e) k))
 
-      pub fault-content : not y ≡ true → 9 ≡ faultFrom table e doc used at
+      by-content : (c : Bool) → contentGood (ofTable table) e (kids zero (drop (i + 1) (toks (take used doc)))) ≡ c → numberFrom table e doc used (i + 1) ≡ cond c 0 9
       unfolding elementFault
-      fault-content n = rw (lt-ltb e (getD table 0 0) h, ← j .good-is, not-false (r .good) b, ← content-is, not-true y n)
+      by-content c ec = rw (lt-ltb e (getD table 0 0) h, ← j .good-is, not-false (r .good) b, ec)
 
-      pub fault-none : not y ≡ false → 0 ≡ faultFrom table e doc used at
-      unfolding elementFault
-      fault-none n = rw (lt-ltb e (getD table 0 0) h, ← j .good-is, not-false (r .good) b, ← content-is, not-false y n)
+      pub fault-none : q ≡ Nowhere → (0, 0) ≡ faultFrom table e doc used i
+      fault-none n = rw (by-content true (is-nowhere _ _ (sym content-is ∙ n)))
+
+      pub fault-content : {place : ℕ} → q ≡ At place → (9, place) ≡ faultFrom table e doc used i
+      fault-content n = let (c, p) = is-at _ _ (sym content-is ∙ n) in rw (by-content false c) (ap (λ x. (9, x)) (p ∙ rw add-one))
 
 -- the number for the element that starts at place i
 abbrev pub numberAt : (table doc : List ℕ) (used i : ℕ) → ℕ
 numberAt table doc used i = faultAt (elementFault (ofTable table)) (drop i (toks (take used doc)))
 
+-- with its place; 0 at 0 for no fault
+abbrev pub faultOf : (table doc : List ℕ) (used i : ℕ) → Answer
+faultOf table doc used i =
+    let number : ℕ = numberAt table doc used i in
+    orElse number (placeOf (ofTable table) number i (drop i (toks (take used doc)))) none-found
+
 module _ (table doc : List ℕ) (used i : ℕ) (l : used ≤ length doc) where
-  pub number-past : used ≤ i → 0 ≡ numberAt table doc used i
-  number-past h = rw (drop-of-length-le (toks (take used doc)) {i = i} (omega (arith, length-toks doc used l)))
+  pub fault-past : used ≤ i → (0, 0) ≡ faultOf table doc used i
+  fault-past h = rw (drop-of-length-le (toks (take used doc)) {i = i} (omega (arith, length-toks doc used l)))
 
   module _ (h : i < used) {y : Bool} (ey : y ≡ starts (tokOf (getD doc i 0))) where
-    next : numberAt table doc used i ≡ faultAt (elementFault (ofTable table)) (tokOf (getD doc i 0) ∷ drop (suc i) (toks (take used doc)))
-    next = ap (faultAt (elementFault (ofTable table))) (rest-next doc used i h l)
+    abbrev of : List Tok → Answer
+    of d = let number : ℕ = faultAt (elementFault (ofTable table)) d in orElse number (placeOf (ofTable table) number i d) none-found
 
-    pub number-start : {e r : ℕ} → not y ≡ false → e ≡ getD doc i 0 / 8 → r ≡ faultFrom table e doc used (i + 1) → r ≡ numberAt table doc used i
-    number-start n ee er =
+    next : faultOf table doc used i ≡ of (tokOf (getD doc i 0) ∷ drop (suc i) (toks (take used doc)))
+    next = ap of (rest-next doc used i h l)
+
+    pub fault-start : {e : ℕ} {f : Fault} → not y ≡ false → e ≡ getD doc i 0 / 8 → (f .number, f .place) ≡ faultFrom table e doc used i
+        → (f .number, f .place) ≡ faultOf table doc used i
+    fault-start n ee er =
         rw (add-one, ee) at er ∙ sym (rw (start-iff (getD doc i 0) .0 (sym ey ∙ not-false y n)) at next)
 
-    pub number-other : not y ≡ true → 0 ≡ numberAt table doc used i
-    number-other n = sym (next ∙ none (tokOf (getD doc i 0)) (sym ey ∙ not-true y n))
+    pub fault-other : not y ≡ true → (0, 0) ≡ faultOf table doc used i
+    fault-other n = sym (next ∙ none (tokOf (getD doc i 0)) (sym ey ∙ not-true y n))
       where
-        none : (x : Tok) → starts x ≡ false → faultAt (elementFault (ofTable table)) (x ∷ drop (suc i) (toks (take used doc))) ≡ 0
+        none : (x : Tok) → starts x ≡ false → of (x ∷ drop (suc i) (toks (take used doc))) ≡ (0, 0)
         none (Start n) s = clash refl s
         none End s = refl
         none (Text n) s = refl
@@ -110,40 +139,59 @@ pub found : (k i : ℕ) (r : Answer) → (k ≡ 0 → ⊥) → (k, i) ≡ orElse
 found zero i r f = absurd (f refl)
 found (suc k) i r f = refl
 
+-- one that was looked for by itself
+pub found-first : (k i : ℕ) (r : Answer) {a : Answer} → a ≡ orElse k i none-found → (a .0 ≡ 0 → ⊥) → a ≡ orElse k i r
+found-first zero i r e f = absurd (f (ap (λ (x : Answer). x .0) e))
+found-first (suc k) i r e f = e
+
+pub found-none : (k i : ℕ) {a : Answer} → a ≡ orElse k i none-found → a .0 ≡ 0 → k ≡ 0
+found-none zero i e z = refl
+found-none (suc k) i e z = sym (ap (λ (x : Answer). x .0) e) ∙ z
+
 -- among the elements that start in a span of places
 abbrev pub firstIn : (table doc : List ℕ) (used low high : ℕ) → Answer
-firstIn table doc used low high = first (elementFault (ofTable table)) startPlace (span low high) 0 (toks (take used doc))
+firstIn table doc used low high = first (elementFault (ofTable table)) (placeOf (ofTable table)) (span low high) 0 (toks (take used doc))
 
 -- the whole document is one span
 pub first-whole : (table doc : List ℕ) (used : ℕ) → used ≤ length doc
-    → firstIn table doc used 0 used ≡ first (elementFault (ofTable table)) startPlace whole 0 (toks (take used doc))
-first-whole table doc used l = first-same (elementFault (ofTable table)) startPlace (span 0 used) whole 0 (toks (take used doc))
+    → firstIn table doc used 0 used ≡ first (elementFault (ofTable table)) (placeOf (ofTable table)) whole 0 (toks (take used doc))
+first-whole table doc used l = first-same (elementFault (ofTable table)) (placeOf (ofTable table)) (span 0 used) whole 0 (toks (take used doc))
     (λ j h. rw (zero-add, le-leb 0 j (omega arith), lt-ltb j used (omega (arith, length-toks doc used l))))
 
 -- no element that starts before place i has a fault
 pub record Looking (table doc : List ℕ) (used low high i : ℕ) : Type 0 where
   pub from : low ≤ i
-  pub left : firstIn table doc used low high ≡ first (elementFault (ofTable table)) startPlace (span low high) i (drop i (toks (take used doc)))
+  pub left : firstIn table doc used low high ≡ first (elementFault (ofTable table)) (placeOf (ofTable table)) (span low high) i (drop i (toks (take used doc)))
 
 module _ (table doc : List ℕ) (used low high : ℕ) where
   pub looking-begin : Looking table doc used low high low
   looking-begin = record {
     from = omega arith;
-    left = rw zero-add at (first-skip (elementFault (ofTable table)) startPlace (span low high) low 0 (toks (take used doc)) (λ j h. rw (zero-add, lt-leb low j h)));
+    left = rw zero-add at (first-skip (elementFault (ofTable table)) (placeOf (ofTable table)) (span low high) low 0 (toks (take used doc)) (λ j h. rw (zero-add, lt-leb low j h)));
   }
 
   module _ {i : ℕ} (c : Looking table doc used low high i) where
     pub looking-none : high ≤ i → (0, 0) ≡ firstIn table doc used low high
-    looking-none h = sym (c .left ∙ first-none (elementFault (ofTable table)) startPlace (span low high) i (drop i (toks (take used doc)))
+    looking-none h = sym (c .left ∙ first-none (elementFault (ofTable table)) (placeOf (ofTable table)) (span low high) i (drop i (toks (take used doc)))
         (λ j. rw (le-leb low (i + j) (let z = c .from in omega arith), le-ltb (i + j) high (omega arith))))
 
-    module _ {number : ℕ} (h : i < high) (g : high ≤ used) (l : used ≤ length doc) (en : number ≡ numberAt table doc used i) where
-      here : firstIn table doc used low high
-          ≡ orElse number i (first (elementFault (ofTable table)) startPlace (span low high) (suc i) (drop (suc i) (toks (take used doc))))
-      here = c .left ∙ rw (rest-next doc used i (omega arith) l)
-          (ap (λ b. orElse (cond b (faultAt (elementFault (ofTable table)) rest) 0) i (first (elementFault (ofTable table)) startPlace (span low high) (suc i) (drop (suc i) (toks (take used doc)))))
-          judged
-          ∙ ap (λ k. orElse k i (first (elementFault (ofTable table)) startPlace (span low high) (suc i) (drop (suc i) (toks (take used doc))))) (sym (rw (rest-next doc used i (omega arith) l) at en)))
+    module _ {a : Answer} (h : i < high) (g : high ≤ used) (l : used ≤ length doc) (ea : a ≡ faultOf table doc used i) where
+      abbrev number : ℕ
+      number = numberAt table doc used i
+
+      abbrev place : ℕ
+      place = placeOf (ofTable table) number i (drop i (toks (take used doc)))
+
+      abbrev later : Answer
+      later = first (elementFault (ofTable table)) (placeOf (ofTable table)) (span low high) (suc i) (drop (suc i) (toks (take used doc)))
+
+      here : firstIn table doc used low high ≡ orElse number place later
+      here =
+          c .left
+          ∙ ap (first (elementFault (ofTable table)) (placeOf (ofTable table)) (span low high) i) (rest-next doc used i (omega arith) l)
+          ∙ ap (λ b. orElse (cond b (faultAt (elementFault (ofTable table)) rest) 0) (placeOf (ofTable table) (faultAt (elementFault (ofTable table)) rest) i rest) later) judged
+          ∙ ap (λ d. orElse (faultAt (elementFault (ofTable table)) d) (placeOf (ofTable table) (faultAt (elementFault (ofTable table)) d) i d) later)
+          (sym (rest-next doc used i (omega arith) l))
         where
           rest : List Tok
           rest = tokOf (getD doc i 0) ∷ drop (suc i) (toks (take used doc))
@@ -151,8 +199,8 @@ module _ (table doc : List ℕ) (used low high : ℕ) where
           judged : span low high i ≡ true
           judged = rw (le-leb low i (c .from), lt-ltb i high h)
 
-      pub looking-on : number ≡ 0 → Looking table doc used low high (i + 1)
-      looking-on z = record { from = let y = c .from in omega arith; left = rw add-one (rw z at here) }
+      pub looking-on : a .0 ≡ 0 → Looking table doc used low high (i + 1)
+      looking-on z = record { from = let y = c .from in omega arith; left = rw add-one (here ∙ ap (λ k. orElse k place later) (found-none number place ea z)) }
 
-      pub looking-found : (number ≡ 0 → ⊥) → (number, i) ≡ firstIn table doc used low high
-      looking-found f = found number i _ f ∙ sym here
+      pub looking-found : (a .0 ≡ 0 → ⊥) → a ≡ firstIn table doc used low high
+      looking-found f = found-first number place later ea f ∙ sym here

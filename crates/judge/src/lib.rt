@@ -3,6 +3,7 @@
 // One element is judged in one pass over its attributes and one over its children. So a check reads each token a few times, whatever the
 // depth. `check` asks nothing of its arguments, and no call writes to what it is lent. Assumes nothing.
 use attributes::attributes;
+use children::Stop;
 use children::content;
 use keys::Fault;
 use keys::key_fault;
@@ -10,53 +11,80 @@ use tokens::is_start;
 use tokens::number;
 ghost use mathlib.Core.Path.{_≡_};
 ghost use mathlib.Core.Bool.{true};
-ghost use Prim.Native.Nat.{_≤_};
+ghost use Prim.Native.Nat.{_≤_, _<_};
 ghost use lib.ListN.{length, take, drop};
 ghost use Rattle.paper.specs.Basics.{mostTokens};
 ghost use Rattle.paper.specs.Tokens.{toks};
 ghost use Rattle.paper.specs.Table.{proper};
 ghost use Rattle.paper.specs.Rules.{ofTable};
-ghost use Rattle.paper.specs.Judgement.{elementFault, faultAt, rootFault, check};
+ghost use Rattle.paper.specs.Judgement.{rootFault, check};
 ghost use Rattle.children.specs.Closed.{Closed};
-ghost use Rattle.judge.specs.Elements.{faultFrom, firstIn};
+ghost use Rattle.judge.specs.Elements.{faultFrom, faultOf, firstIn};
 ghost use Rattle.judge.specs.Check.{judgedWith};
 
-// The number for an element by its name, where its attributes begin at a place: 7, 8 or 9, and 0 for no fault.
-fn fault_from(table: &[u64], e: u32, doc: &[u32], used: usize, closes: &[u32], at: usize) -> u32
+// The fault of an element by its name, where its start stands at a place: 7, 8 or 9; 0 and 0 for no fault. 7 and 8 give the start's place,
+// 9 that where its content stops.
+fn fault_from(
+    table: &[u64],
+    e: u32,
+    doc: &[u32],
+    used: usize,
+    closes: &[u32],
+    start: usize,
+) -> Fault
     requires { ⌜ proper (now table) ≡ true ⌝ }
     requires { ⌜ Closed (now doc) used (now closes) ⌝ }
-    requires { ⌜ (used ≤ length (now doc)) × (at ≤ used) ⌝ }
-    ensures { λ r. ⌜ r ≡ faultFrom (now (table .entry)) e (now (doc .entry)) used at ⌝ }
+    requires { ⌜ (used ≤ length (now doc)) × (used ≤ mostTokens) × (start < used) ⌝ }
+    ensures { λ r. ⌜ (r .number, r .place) ≡ faultFrom (now (table .entry)) e (now (doc .entry)) used start ⌝ }
 {
+    let here = start as u32;
     if e as u64 >= table[0] {
-        return paper::NAME;
+        return Fault {
+            number: paper::NAME,
+            place: here,
+        };
     }
     let name = e as usize;
-    let front = attributes(table, name, doc, used, at);
+    let front = attributes(table, name, doc, used, start + 1);
     if !front.good {
-        return paper::ATTRIBUTES;
+        return Fault {
+            number: paper::ATTRIBUTES,
+            place: here,
+        };
     }
-    if !content(table, name, doc, used, closes, front.after) {
-        return paper::CONTENT;
+    match content(table, name, doc, used, closes, front.after) {
+        Stop::Nowhere => Fault {
+            number: 0,
+            place: 0,
+        },
+        Stop::At(place) => Fault {
+            number: paper::CONTENT,
+            place: place as u32,
+        },
     }
-    0
 }
 
-// The number for the element that starts at place i; 0, where none does.
-pub fn element_number(table: &[u64], doc: &[u32], used: usize, closes: &[u32], i: usize) -> u32
+// The fault of the element that starts at place i; 0 and 0, where none does.
+pub fn element_fault(table: &[u64], doc: &[u32], used: usize, closes: &[u32], i: usize) -> Fault
     requires { ⌜ proper (now table) ≡ true ⌝ }
     requires { ⌜ Closed (now doc) used (now closes) ⌝ }
-    requires { ⌜ used ≤ length (now doc) ⌝ }
-    ensures { λ r. ⌜ r ≡ faultAt (elementFault (ofTable (now (table .entry)))) (drop i (toks (take used (now (doc .entry))))) ⌝ }
+    requires { ⌜ (used ≤ length (now doc)) × (used ≤ mostTokens) ⌝ }
+    ensures { λ r. ⌜ (r .number, r .place) ≡ faultOf (now (table .entry)) (now (doc .entry)) used i ⌝ }
 {
     if used <= i {
-        return 0;
+        return Fault {
+            number: 0,
+            place: 0,
+        };
     }
     let t = doc[i];
     if !is_start(t) {
-        return 0;
+        return Fault {
+            number: 0,
+            place: 0,
+        };
     }
-    fault_from(table, number(t), doc, used, closes, i + 1)
+    fault_from(table, number(t), doc, used, closes, i)
 }
 
 // The first fault among the elements that start from place `low` up to `high`, that one not included.
@@ -75,14 +103,10 @@ pub fn first_fault(
 {
     let mut i = low;
     while i < high {
-        let number = element_number(table, doc, used, closes, i);
-        let place = i;
+        let fault = element_fault(table, doc, used, closes, i);
         i += 1;
-        if number != 0 {
-            return Fault {
-                number,
-                place: place as u32,
-            };
+        if fault.number != 0 {
+            return fault;
         }
     }
     Fault {

@@ -1,10 +1,10 @@
 -- The test of an element's content is passed exactly by valid content. Assumes nothing.
 use mathlib.Core.Path.{_≡_, refl, ap}
 use mathlib.Core.Logic.{_↔_, _⊎_, inl, inr, ⊎-elim}
-use mathlib.Core.Bool.{Bool, true, false, cond, _&&_}
+use mathlib.Core.Bool.{Bool, true, false, _&&_}
 use mathlib.Core.List.{List, [], _∷_, map, cons≢nil}
 use Prim.Native.Nat.{ℕ, zero, suc}
-use lib.Dec.{T, eqb}
+use lib.Dec.{T}
 use Rattle.paper.specs.declared.Tok.{Tok}
 use Rattle.paper.specs.declared.Tok.the-variants.{Start, End, Text, Attr, Value, Bad}
 use Rattle.paper.specs.Basics.{all, null}
@@ -14,14 +14,14 @@ use Rattle.paper.specs.Tokens.{kids}
 use Rattle.paper.specs.Schema.{Content, empty, text, model, Schema}
 use Rattle.paper.specs.Table.{kindNumber}
 use Rattle.paper.specs.Rules.{elementAt, describedBy, ofSchema}
-use Rattle.paper.specs.Judgement.{noText, named, textOrNone, contentGood}
+use Rattle.paper.specs.Judgement.{noText, named, textOrNone, content, contentGood}
 use Rattle.paper.specs.Validity.{ContentValid}
 use Rattle.basic_laws.specs.Tests.{and-iff}
 use Rattle.content_laws.specs.Matching.{matches-iff}
 
 -- ---- children are starts and texts
 
-abbrev item : Tok → Bool
+abbrev pub item : Tok → Bool
 item (Start n) = true
 item (Text n) = true
 item End = false
@@ -29,7 +29,7 @@ item (Attr n) = false
 item (Value n) = false
 item Bad = false
 
-items : (k : ℕ) (d : List Tok) → T (all item (kids k d))
+pub items : (k : ℕ) (d : List Tok) → T (all item (kids k d))
 items k [] = tt
 items zero (Start n ∷ d) = items 1 d
 items (suc k) (Start n ∷ d) = items (suc (suc k)) d
@@ -43,7 +43,7 @@ items k (Bad ∷ d) = items k d
 
 -- ---- one law for each kind
 
-null-iff : (k : List Tok) → T (null k) ↔ (k ≡ [])
+pub null-iff : (k : List Tok) → T (null k) ↔ (k ≡ [])
 null-iff [] = (λ t. refl, λ e. tt)
 null-iff (x ∷ k) = (λ t. absurd t, λ e. absurd (cons≢nil e))
 
@@ -56,10 +56,10 @@ to-text (Attr n ∷ k) t = absurd t
 to-text (Value n ∷ k) t = absurd t
 to-text (Bad ∷ k) t = absurd t
 
-text-iff : (k : List Tok) → T (textOrNone k) ↔ ((k ≡ []) ⊎ ((n : ℕ) × (k ≡ Text n ∷ [])))
+pub text-iff : (k : List Tok) → T (textOrNone k) ↔ ((k ≡ []) ⊎ ((n : ℕ) × (k ≡ Text n ∷ [])))
 text-iff k = (to-text k, ⊎-elim (λ e. rw e tt) (λ c. rw (c .1) tt))
 
-to-starts : (k : List Tok) → T (all item k) → T (noText k) → k ≡ map Start (named k)
+pub to-starts : (k : List Tok) → T (all item k) → T (noText k) → k ≡ map Start (named k)
 to-starts [] i t = refl
 to-starts (Start n ∷ k) i t = ap (λ l. Start n ∷ l) (to-starts k i t)
 to-starts (Text n ∷ k) i t = absurd t
@@ -68,7 +68,7 @@ to-starts (Attr n ∷ k) i t = absurd i
 to-starts (Value n ∷ k) i t = absurd i
 to-starts (Bad ∷ k) i t = absurd i
 
-of-starts : (w : List ℕ) → T (noText (map Start w)) × (named (map Start w) ≡ w)
+pub of-starts : (w : List ℕ) → T (noText (map Start w)) × (named (map Start w) ≡ w)
 of-starts [] = (tt, refl)
 of-starts (n ∷ w) = let (t, e) = of-starts w in (t, rw e)
 
@@ -82,8 +82,7 @@ model-iff e k i =
 
 -- ---- the content of an element
 
-by-kind : (c : Content) (k : List Tok) → T (all item k)
-    → T (cond (eqb (kindNumber c) 0) (null k) (cond (eqb (kindNumber c) 1) (textOrNone k) (noText k && describedBy c (named k)))) ↔ ContentValid c k
+by-kind : (c : Content) (k : List Tok) → T (all item k) → T (content (kindNumber c) (describedBy c) k) ↔ ContentValid c k
 by-kind empty k i = null-iff k
 by-kind text k i = text-iff k
 by-kind (model e) k i = model-iff e k i

@@ -15,7 +15,7 @@ use Rattle.paper.specs.Shape.{isElement, shallow, shapeOf}
 use Rattle.paper.specs.Schema.{Schema}
 use Rattle.paper.specs.SchemaWritten.{formed}
 use Rattle.paper.specs.Rules.{Rules, ofSchema}
-use Rattle.paper.specs.Judgement.{none-found, attributesGood, contentGood, elementFault, faultAt, first, startPlace, rootFault, valueIn, idsOf, refsOf, repeated, dangling, judge, whole, checking}
+use Rattle.paper.specs.Judgement.{none-found, attributesGood, contentGood, elementFault, faultAt, first, placeOf, rootFault, valueIn, idsOf, refsOf, repeated, dangling, judge, whole, checking}
 use Rattle.paper.specs.Validity.{ElementValid, Valid, ValidDocument}
 use Rattle.shape_laws.specs.Keep.{element-parts}
 use Rattle.basic_laws.specs.Tests.{true-iff}
@@ -26,7 +26,7 @@ use Rattle.judge_laws.specs.Keys.{ids-iff, references-iff}
 
 -- ---- the elements
 
-module _ (fault : ℕ → List Tok → List Tok → ℕ) where
+module _ (fault : ℕ → List Tok → List Tok → ℕ) (given : ℕ → ℕ → List Tok → ℕ) where
   abbrev Sound : ℕ → List Tok → Type 0
   Sound n r = fault n (heads r) (kids zero r) ≡ 0
 
@@ -39,10 +39,10 @@ module _ (fault : ℕ → List Tok → List Tok → ℕ) where
   start-iff (Value n) d = (λ e m c. other c refl, λ f. refl)
   start-iff Bad d = (λ e m c. other c refl, λ f. refl)
 
-  first-iff : (i : ℕ) (d : List Tok) → (first fault startPlace whole i d .0 ≡ 0) ↔ Each Start Sound d
+  first-iff : (i : ℕ) (d : List Tok) → (first fault given whole i d .0 ≡ 0) ↔ Each Start Sound d
   first-iff i [] = (λ e. each-nil Start Sound, λ f. refl)
   first-iff i (t ∷ d) =
-      Iff·trans (else-iff (faultAt fault (t ∷ d)) i (first fault startPlace whole (suc i) d))
+      Iff·trans (else-iff (faultAt fault (t ∷ d)) (given (faultAt fault (t ∷ d)) i (t ∷ d)) (first fault given whole (suc i) d))
       (Iff·trans (Iff·and (start-iff t d) (first-iff (suc i) d)) (each-cons Start Sound t d))
 
 element-iff : (s : Schema) → formed s ≡ true → (n : ℕ) (r : List Tok)
@@ -92,16 +92,16 @@ judged-valid s f d b =
     let R = ofSchema s in
     let (begins, _, body) = element-parts d b in
     let ids = map valueIn (idsOf R d) in
-    let (apart, joined) = before-iff (rootFault R d) (first (elementFault R) startPlace whole 0 d) (repeated [] (idsOf R d)) (dangling ids (refsOf R d)) in (
+    let (apart, joined) = before-iff (rootFault R d) (first (elementFault R) (placeOf R) whole 0 d) (repeated [] (idsOf R d)) (dangling ids (refsOf R d)) in (
       λ e. let (p, q, r, t) = apart e in record {
         root = root-iff R d begins .0 p;
-        elements = λ u v n c. element-iff s f n v .0 (first-iff (elementFault R) 0 d .0 q u v n c);
+        elements = λ u v n c. element-iff s f n v .0 (first-iff (elementFault R) (placeOf R) 0 d .0 q u v n c);
         ids = ids-iff s d body .0 r;
         references = references-iff s d body .0 t;
       },
       λ v. joined (
         root-iff R d begins .1 (v .root),
-        first-iff (elementFault R) 0 d .1 (λ u r n c. element-iff s f n r .1 (v .elements u r n c)),
+        first-iff (elementFault R) (placeOf R) 0 d .1 (λ u r n c. element-iff s f n r .1 (v .elements u r n c)),
         ids-iff s d body .1 (v .ids),
         references-iff s d body .1 (v .references),
       ),

@@ -1,13 +1,13 @@
 -- "Judgement of a document": one definition, over the rules that a schema or a table gives. Assumes nothing.
 use mathlib.Core.Bool.{Bool, true, false, cond, not, _&&_, _||_}
 use mathlib.Core.List.{List, [], _∷_, map}
-use Prim.Native.Nat.{ℕ, zero, suc}
+use Prim.Native.Nat.{ℕ, zero, suc, _+_}
 use lib.Dec.{ltb, eqb}
 use lib.ListN.{take}
 use Rattle.paper.specs.declared.Tok.{Tok}
 use Rattle.paper.specs.declared.Tok.the-variants.{Start, End, Text, Attr, Value, Bad}
 use Rattle.paper.specs.Basics.{mostAttributes, every, null, consIf, elem}
-use Rattle.paper.specs.Tokens.{toks, heads, kids, values}
+use Rattle.paper.specs.Tokens.{toks, heads, kids, childAt, values}
 use Rattle.paper.specs.Shape.{shapeOf}
 use Rattle.paper.specs.Table.{proper}
 use Rattle.paper.specs.Rules.{Rules, ofTable}
@@ -89,12 +89,26 @@ textOrNone (Value n ∷ k) = false
 textOrNone (Bad ∷ k) = false
 
 -- "content (9): EMPTY has no child and no text, text only [..], a model has no text and a child sequence that the expression
--- describes"
+-- describes": by kind, and a test of a model's names
+abbrev pub content : (kind : ℕ) → (List ℕ → Bool) → List Tok → Bool
+content kind names k =
+    cond (eqb kind 0) (null k)
+    (cond (eqb kind 1) (textOrNone k)
+    (noText k && names (named k)))
+
 unfoldable pub contentGood : Rules → ℕ → List Tok → Bool
-contentGood R e k =
-    cond (eqb (R .kind e) 0) (null k)
-    (cond (eqb (R .kind e) 1) (textOrNone k)
-    (noText k && R .describes e (named k)))
+contentGood R e k = content (R .kind e) (R .describes e) k
+
+-- valid content of the element begins with the children k
+unfoldable pub contentBegun : Rules → ℕ → List Tok → Bool
+contentBegun R e k = content (R .kind e) (R .begins e) k
+
+-- ---- where content stops
+
+-- how many children stand before the first with which `begun` no longer holds of them; all, where there is none
+abbrev pub stopAfter : (begun : List Tok → Bool) → List Tok → ℕ
+stopAfter begun [] = 0
+stopAfter begun (x ∷ k) = cond (begun (x ∷ [])) (suc (stopAfter (λ l. begun (x ∷ l)) k)) 0
 
 -- ---- the elements
 
@@ -123,9 +137,20 @@ module _ (fault : ℕ → List Tok → List Tok → ℕ) where
     first judged i (x ∷ d) =
         orElse (cond (judged i) (faultAt (x ∷ d)) 0) (given (faultAt (x ∷ d)) i (x ∷ d)) (first judged (suc i) d)
 
--- "These give the start's place."
-abbrev pub startPlace : ℕ → ℕ → List Tok → ℕ
-startPlace number i d = i
+-- Item 3: "Answer 9 shall give the first child or text at which no valid content can begin that way, or the element's end token if the
+-- children stop too early." Of the element that starts d at place i.
+abbrev pub stopIn : Rules → ℕ → List Tok → ℕ
+stopIn R i [] = i
+stopIn R i (Start n ∷ d) = suc i + childAt (stopAfter (contentBegun R n) (kids zero d)) zero d
+stopIn R i (End ∷ d) = i
+stopIn R i (Text n ∷ d) = i
+stopIn R i (Attr n ∷ d) = i
+stopIn R i (Value n ∷ d) = i
+stopIn R i (Bad ∷ d) = i
+
+-- "These give the start's place", but for 9
+abbrev pub placeOf : Rules → (number i : ℕ) → List Tok → ℕ
+placeOf R number i d = cond (eqb number 9) (stopIn R i d) i
 
 -- ---- the root (10)
 
@@ -189,7 +214,7 @@ keyFault R d = before (repeated [] (idsOf R d)) (dangling (map valueIn (idsOf R 
 -- a reference value that is no ID [..]. The lowest such place is given." Of a document with shape; `judged` says at which
 -- places 7, 8 and 9 are looked for.
 unfoldable pub judge : Rules → (ℕ → Bool) → List Tok → Answer
-judge R judged d = before (rootFault R d) (before (first (elementFault R) startPlace judged 0 d) (keyFault R d))
+judge R judged d = before (rootFault R d) (before (first (elementFault R) (placeOf R) judged 0 d) (keyFault R d))
 
 abbrev pub whole : ℕ → Bool
 whole i = true

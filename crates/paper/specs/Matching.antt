@@ -1,6 +1,6 @@
--- Whether an expression describes a list of names, as a test that needs neither a table nor sets: the names that can have been
--- read last carry a mark, and each further name moves the marks. That the test says what `Matches` means, of every expression,
--- ambiguous or not, is proved in the crate `content_laws`. Assumes nothing.
+-- Whether an expression describes a list of names, and whether a list that it describes begins with them, as tests that need neither a
+-- table nor sets: the names that can have been read last carry a mark, and each further name moves the marks. That the tests say what
+-- `Matches` means, of every expression, ambiguous or not, is proved in the crate `content_laws`. Assumes nothing.
 use mathlib.Core.Bool.{Bool, true, false, _&&_, _||_}
 use mathlib.Core.List.{List, [], _∷_}
 use Prim.Native.Nat.{ℕ}
@@ -58,3 +58,21 @@ goes r (a ∷ w) = goes (shift false a r) w
 unfoldable pub matches : Expr → List ℕ → Bool
 matches e [] = nullable e
 matches e (a ∷ w) = goes (shift true a (fresh e)) w
+
+-- what was read can be continued: a name carries a mark
+abbrev pub live : Reading → Bool
+live (spot m a) = m
+live (both r q) = live r || live q
+live (either r q) = live r || live q
+live (maybe r) = live r
+live (many r) = live r
+live (some r) = live r
+
+abbrev pub liveAfter : Reading → List ℕ → Bool
+liveAfter r [] = live r
+liveAfter r (a ∷ w) = liveAfter (shift false a r) w
+
+-- Item 3: "valid content can begin that way": a list of names that e describes begins with these
+unfoldable pub begins : Expr → List ℕ → Bool
+begins e [] = true
+begins e (a ∷ w) = liveAfter (shift true a (fresh e)) w

@@ -1,15 +1,15 @@
 -- `unfolding all-open` opens every definition of the paper, for examples that are computed.
 use Rattle.paper.specs.Files.{bytesOf, front, reading, writing, read, write}
-use Rattle.paper.specs.Matching.{matches}
+use Rattle.paper.specs.Matching.{matches, begins}
 use Rattle.paper.specs.Schema.{symbol, exprOf, number, schemaOf}
 use Rattle.paper.specs.Table.{block, tableOf, translate, properSets, properModel, properBlock, proper}
 use Rattle.paper.specs.Tokens.{endOf}
 use Rattle.paper.specs.Shape.{isElement, shapeOf}
-use Rattle.paper.specs.Judgement.{attributesGood, contentGood, elementFault, judge, checking, check}
+use Rattle.paper.specs.Judgement.{attributesGood, contentGood, contentBegun, elementFault, judge, checking, check}
 use Rattle.paper.specs.Edits.{goodPiece, goodPlace, edited, touchedBy, formFault, editing, editBy, edit}
 use Rattle.paper.specs.Inclusion.{shortestLost, comparing, compare}
 use Rattle.paper.specs.Program.{request, linesOf, printed}
 
 unfoldable pub all-open : Unit {0}
-unfolding bytesOf front reading writing read write matches symbol exprOf number schemaOf block tableOf translate properSets properModel properBlock proper endOf isElement shapeOf attributesGood contentGood elementFault judge checking check goodPiece goodPlace edited touchedBy formFault editing editBy edit shortestLost comparing compare request linesOf printed
+unfolding bytesOf front reading writing read write matches begins symbol exprOf number schemaOf block tableOf translate properSets properModel properBlock proper endOf isElement shapeOf attributesGood contentGood contentBegun elementFault judge checking check goodPiece goodPlace edited touchedBy formFault editing editBy edit shortestLost comparing compare request linesOf printed
 all-open = tt

@@ -7,19 +7,20 @@ use mathlib.Core.List.{List, [], _∷_}
 use Prim.Native.Nat.{ℕ, _+_}
 use lib.Dec.{eqb}
 use lib.ListN.{length, getD}
-use Rattle.paper.specs.Basics.{find, some-of}
+use Rattle.paper.specs.Basics.{find, some-of, null}
 use Rattle.paper.specs.Sets.{bit}
 use Rattle.paper.specs.Schema.{Attribute, Content, empty, text, model, Element, Schema}
-use Rattle.paper.specs.Matching.{matches}
+use Rattle.paper.specs.Matching.{matches, begins}
 use Rattle.paper.specs.Table.{block, cell, kindAt, allowedAt, requiredAt, idAt, idrefAt, idrefsAt, countAt, noChildAt, firstAt, lastAt, namesAt, followAt, kindNumber, ofKind, isRequired}
 
 pub record Rules : Type 0 where
   -- E, and the root's name
   pub elements : ℕ
   pub root : ℕ
-  -- of an element: its kind; and whether a list of children, by their names, is one that its model describes
+  -- of an element: its kind; whether a list of children, by their names, is one that its model describes; and whether it begins one
   pub kind : ℕ → ℕ
   pub describes : ℕ → List ℕ → Bool
+  pub begins : ℕ → List ℕ → Bool
   -- of an element and an attribute
   pub allowed : ℕ → ℕ → Bool
   pub required : ℕ → ℕ → Bool
@@ -44,12 +45,18 @@ describedBy empty w = false
 describedBy text w = false
 describedBy (model e) w = matches e w
 
+abbrev pub begunBy : Content → List ℕ → Bool
+begunBy empty w = null w
+begunBy text w = null w
+begunBy (model e) w = begins e w
+
 abbrev pub ofSchema : Schema → Rules
 ofSchema s = record {
   elements = length (s .elements);
   root = s .root;
   kind = λ e. kindNumber (elementAt s e .content);
   describes = λ e w. describedBy (elementAt s e .content) w;
+  begins = λ e w. begunBy (elementAt s e .content) w;
   allowed = λ e a. has (λ y. true) (elementAt s e) a;
   required = λ e a. has isRequired (elementAt s e) a;
   id = λ e a. has (ofKind 1) (elementAt s e) a;
@@ -89,12 +96,18 @@ ended b (some s) = mayEnd b s
 abbrev pub runs : List ℕ → List ℕ → Bool
 runs b w = ended b (runFrom b start w)
 
+-- Item 3: "In a table we didn't translate, it is where the run has no next occurrence."
+abbrev pub goesOn : Option State → Bool
+goesOn none = false
+goesOn (some s) = true
+
 abbrev pub ofTable : List ℕ → Rules
 ofTable t = record {
   elements = getD t 0 0;
   root = getD t 1 0;
   kind = λ e. cell (block t e) kindAt;
   describes = λ e w. runs (block t e) w;
+  begins = λ e w. goesOn (runFrom (block t e) start w);
   allowed = λ e a. bit (cell (block t e) allowedAt) a;
   required = λ e a. bit (cell (block t e) requiredAt) a;
   id = λ e a. bit (cell (block t e) idAt) a;

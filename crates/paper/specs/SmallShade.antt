@@ -1,5 +1,6 @@
 -- "The small shade": the cases marked P and the four models, as one list, and one statement over it. Item 1: "In document 01, remove
--- at 7 becomes done with length 14." Assumes nothing.
+-- at 7 becomes done with length 14." Item 3: "Document 01's cases change: remove at 3, and insert of the use at 3, both give 9 at 3."
+-- Assumes nothing.
 use mathlib.Core.Path.{_≡_, refl}
 use mathlib.Core.Bool.{Bool, true, false, _&&_}
 use mathlib.Core.List.{List, [], _∷_, _++_}
@@ -51,12 +52,12 @@ pub data Case : Type 0 where
 abbrev pub cases : List Case
 cases =
     checks 0 0
-    ∷ edits 2 3 [] 9 0 15
+    ∷ edits 2 3 [] 9 3 15
     ∷ edits 2 10 [] 0 0 11
     ∷ edits 2 7 [] 0 0 14
     ∷ edits 1 10 (9 ∷ 12 ∷ 165 ∷ 2 ∷ []) 11 12 15
     ∷ edits 1 10 (9 ∷ 12 ∷ 173 ∷ 2 ∷ []) 0 0 19
-    ∷ edits 1 3 (25 ∷ 20 ∷ 165 ∷ 2 ∷ []) 9 0 15
+    ∷ edits 1 3 (25 ∷ 20 ∷ 165 ∷ 2 ∷ []) 9 3 15
     ∷ edits 1 10 (25 ∷ 20 ∷ 165 ∷ 2 ∷ []) 0 0 19
     ∷ edits 3 3 (9 ∷ 12 ∷ 173 ∷ 2 ∷ []) 12 9 15
     ∷ edits 5 3 (12 ∷ []) 8 3 15
@@ -98,11 +99,36 @@ twoWith symbols = 3 ∷ 0 ∷ 2 ∷ length symbols ∷ symbols ++ (0 ∷ 0 ∷ 0
 abbrev pub ones : ℕ → List ℕ
 ones n = 1 ∷ concat (replicate n (9 ∷ 2 ∷ [])) ++ (2 ∷ [])
 
-abbrev pub checksAs : Parsed Schema → List ℕ → ℕ → Bool
-checksAs (stop k) doc n = false
-checksAs (ok s r) doc n = sameAnswer n 0 (checking (ofSchema s) doc (length doc)) && sameAnswer n 0 (check (tableOf s) doc (length doc))
+abbrev pub checksAs : Parsed Schema → List ℕ → ℕ → ℕ → Bool
+checksAs (stop k) doc n p = false
+checksAs (ok s r) doc n p = sameAnswer n p (checking (ofSchema s) doc (length doc)) && sameAnswer n p (check (tableOf s) doc (length doc))
 
 -- "Running a content table without asking, at the end, whether the last occurrence may be last."
-pub last-asked : checksAs (schemaOf (fileOf (twoWith (0 ∷ 6 ∷ 7 ∷ [])))) (ones 1) 9 ≡ true
+pub last-asked : checksAs (schemaOf (fileOf (twoWith (0 ∷ 6 ∷ 7 ∷ [])))) (ones 1) 9 3 ≡ true
 unfolding all-open
 last-asked = refl
+
+-- ---- where content stops
+
+-- a document by the small shade's schema, and the place of its 9
+abbrev pub stopsAt : ℕ × List ℕ → Bool
+stopsAt x = checksAs (schemaOf (fileOf shade)) (x .1) 9 (x .0)
+
+-- A use where a panel must stand, with none behind it, and with one; no child at all: the end token; a text in the shade, before and behind
+-- the panel; two texts in a row; a panel in a row, and behind its text; a text in the use.
+abbrev pub stopping : List (ℕ × List ℕ)
+stopping =
+    (3, 1 ∷ 4 ∷ 61 ∷ 25 ∷ 20 ∷ 165 ∷ 2 ∷ 2 ∷ [])
+    ∷ (3, 1 ∷ 4 ∷ 61 ∷ 25 ∷ 20 ∷ 165 ∷ 2 ∷ 9 ∷ 12 ∷ 165 ∷ 17 ∷ 243 ∷ 2 ∷ 2 ∷ 25 ∷ 20 ∷ 165 ∷ 2 ∷ 2 ∷ [])
+    ∷ (3, 1 ∷ 4 ∷ 61 ∷ 2 ∷ [])
+    ∷ (3, 1 ∷ 4 ∷ 61 ∷ 243 ∷ 9 ∷ 12 ∷ 165 ∷ 17 ∷ 243 ∷ 2 ∷ 2 ∷ 2 ∷ [])
+    ∷ (10, 1 ∷ 4 ∷ 61 ∷ 9 ∷ 12 ∷ 165 ∷ 17 ∷ 243 ∷ 2 ∷ 2 ∷ 243 ∷ 2 ∷ [])
+    ∷ (8, 1 ∷ 4 ∷ 61 ∷ 9 ∷ 12 ∷ 165 ∷ 17 ∷ 243 ∷ 243 ∷ 2 ∷ 2 ∷ 2 ∷ [])
+    ∷ (7, 1 ∷ 4 ∷ 61 ∷ 9 ∷ 12 ∷ 165 ∷ 17 ∷ 9 ∷ 12 ∷ 173 ∷ 2 ∷ 2 ∷ 2 ∷ 2 ∷ [])
+    ∷ (8, 1 ∷ 4 ∷ 61 ∷ 9 ∷ 12 ∷ 165 ∷ 17 ∷ 243 ∷ 9 ∷ 12 ∷ 173 ∷ 2 ∷ 2 ∷ 2 ∷ 2 ∷ [])
+    ∷ (13, 1 ∷ 4 ∷ 61 ∷ 9 ∷ 12 ∷ 165 ∷ 17 ∷ 243 ∷ 2 ∷ 2 ∷ 25 ∷ 20 ∷ 165 ∷ 243 ∷ 2 ∷ 2 ∷ [])
+    ∷ []
+
+pub all-stop : all stopsAt stopping ≡ true
+unfolding all-open
+all-stop = refl

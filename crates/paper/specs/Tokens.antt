@@ -75,6 +75,21 @@ abbrev pub close : ℕ → List Tok → ℕ
 close k [] = zero
 close k (t ∷ d) = cond (closesOf k t) zero (suc (close (levelOf k t) d))
 
+-- how many tokens stand before child j of the element that is open k levels up, or before its end if it has j children
+abbrev pub childAt : (j k : ℕ) → List Tok → ℕ
+childAt j k [] = 0
+childAt j (suc k) (Start n ∷ d) = suc (childAt j (suc (suc k)) d)
+childAt zero zero (Start n ∷ d) = 0
+childAt (suc j) zero (Start n ∷ d) = suc (childAt j 1 d)
+childAt j zero (End ∷ d) = 0
+childAt j (suc k) (End ∷ d) = suc (childAt j k d)
+childAt j (suc k) (Text n ∷ d) = suc (childAt j (suc k) d)
+childAt zero zero (Text n ∷ d) = 0
+childAt (suc j) zero (Text n ∷ d) = suc (childAt j zero d)
+childAt j k (Attr n ∷ d) = suc (childAt j k d)
+childAt j k (Value n ∷ d) = suc (childAt j k d)
+childAt j k (Bad ∷ d) = suc (childAt j k d)
+
 -- the place of the end of the element that starts at a place; the length, where it has none
 unfoldable pub endOf : List Tok → ℕ → ℕ
 endOf d place = suc place + close zero (drop (suc place) d)

@@ -5,7 +5,7 @@ use mathlib.Core.Path.{_≡_}
 use mathlib.Core.Logic.{_⊎_}
 use mathlib.Core.Bool.{true}
 use mathlib.Core.List.{List, [], _∷_, _++_, map}
-use Prim.Native.Nat.{ℕ, zero, _<_}
+use Prim.Native.Nat.{ℕ, zero, suc, _+_, _≤_, _<_}
 use lib.Dec.{T}
 use lib.ListN.{length, take}
 use Rattle.paper.specs.declared.Tok.{Tok}
@@ -13,7 +13,7 @@ use Rattle.paper.specs.declared.Tok.the-variants.{Start, Text, Attr, Val
 use Rattle.paper.specs.Expressions.{Matches}
 use Rattle.paper.specs.Schema.{Content, empty, text, model, Element, Schema}
 use Rattle.paper.specs.Table.{ofKind, isRequired}
-use Rattle.paper.specs.Tokens.{toks, heads, kids, values}
+use Rattle.paper.specs.Tokens.{toks, heads, kids, childAt, values}
 use Rattle.paper.specs.Shape.{shapeOf}
 use Rattle.paper.specs.Rules.{elementAt, has}
 
@@ -84,3 +84,32 @@ pub record Valid (s : Schema) (d : List Tok) : Type 0 where
 pub record ValidDocument (s : Schema) (buffer : List ℕ) (used : ℕ) : Type 0 where
   pub shape : shapeOf buffer used ≡ true
   pub valid : Valid s (toks (take used buffer))
+
+-- ---- where content stops
+
+-- Item 3: "the first child or text at which no valid content can begin that way, or the element's end token if the children stop too
+-- early". Content stops at child i of the children k, or at the end token if there are i: `Begins` says of children that valid content
+-- begins with them, `Good` that they are valid content.
+pub record StopsAt (Begins Good : List Tok → Type 0) (k : List Tok) (i : ℕ) : Type 0 where
+  pub within : i ≤ length k
+  pub before : Begins (take i k)
+  pub here : i < length k → ¬ Begins (take (suc i) k)
+  pub ending : i ≡ length k → ¬ Good k
+
+-- the place is where the content of an element of d stops: `Begins` and `Good` are told of the element's name
+pub record Points (Begins Good : ℕ → List Tok → Type 0) (d : List Tok) (place : ℕ) : Type 0 where
+  pub element : ℕ
+  pub before : List Tok
+  pub after : List Tok
+  pub tokens : d ≡ before ++ Start element ∷ after
+  pub child : ℕ
+  pub stops : StopsAt (Begins element) (Good element) (kids zero after) child
+  pub at-place : place ≡ length before + suc (childAt child zero after)
+
+-- some valid content begins with the children k
+abbrev pub Begun : Content → List Tok → Type 0
+Begun c k = (v : List Tok) × ContentValid c (k ++ v)
+
+-- by the schema's own expressions
+abbrev pub PointsAt : Schema → List Tok → (place : ℕ) → Type 0
+PointsAt s d place = Points (λ n. Begun (elementAt s n .content)) (λ n. ContentValid (elementAt s n .content)) d place

@@ -98,7 +98,7 @@ abbrev pub answerOf : Request × Outcome → ℕ × ℕ × ℕ
 answerOf x = (x .1 .number, x .1 .place, x .1 .used)
 
 -- "give exactly"
-pub answers : map answerOf run ≡ (9, 0, 15) ∷ (0, 0, 19) ∷ (11, 9, 19) ∷ (0, 0, 15) ∷ (0, 0, 8) ∷ []
+pub answers : map answerOf run ≡ (9, 3, 15) ∷ (0, 0, 19) ∷ (11, 9, 19) ∷ (0, 0, 15) ∷ (0, 0, 8) ∷ []
 unfolding all-open
 answers = refl
 
@@ -107,6 +107,6 @@ abbrev pub requestWritten : Request → List ℕ
 requestWritten q = q .operation ∷ q .place ∷ length (q .piece) ∷ q .piece
 
 pub lines : linesOf (some (fileOf shade)) (some (fileOf small)) (some (fileOf (concat (map requestWritten requests))))
-    ≡ line 0 0 0 15 ∷ line 1 9 0 15 ∷ line 2 0 0 19 ∷ line 3 11 9 19 ∷ line 4 0 0 15 ∷ line 5 0 0 8 ∷ []
+    ≡ line 0 0 0 15 ∷ line 1 9 3 15 ∷ line 2 0 0 19 ∷ line 3 11 9 19 ∷ line 4 0 0 15 ∷ line 5 0 0 8 ∷ []
 unfolding all-open
 lines = refl

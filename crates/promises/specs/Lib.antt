@@ -9,5 +9,6 @@ pub mod Run
 -- Item 12: what is promised, and its proofs
 pub mod Inclusion
 pub mod Compared
+pub mod Pointing
 pub mod Theorems
 pub mod Example

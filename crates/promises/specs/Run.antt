@@ -17,7 +17,7 @@ use Rattle.paper.specs.Schema.{Schema}
 use Rattle.paper.specs.Tokens.{toks}
 use Rattle.paper.specs.Shape.{shallow, shapeOf}
 use Rattle.paper.specs.Rules.{Rules, ofSchema}
-use Rattle.paper.specs.Judgement.{Answer, none-found, orElse, before, rootFault, elementFault, first, startPlace, repeated, dangling, idsOf, refsOf, valueIn, keyFault, judge, whole, checking}
+use Rattle.paper.specs.Judgement.{Answer, none-found, orElse, before, rootFault, elementFault, first, placeOf, repeated, dangling, idsOf, refsOf, valueIn, keyFault, judge, whole, checking}
 use Rattle.paper.specs.Validity.{ValidDocument}
 use Rattle.paper.specs.Edits.{Request, Outcome, refused, done, outcome, edited, touchedBy, formFault, answered, editing, editBy, written}
 use Rattle.shape_laws.specs.EditJudged.{Asked, form-iff, judged-whole, asked-shape}
@@ -50,8 +50,8 @@ dangling-neat ids (p ∷ l) = go (elem (p .1) ids) (dangling-neat ids l)
 judge-neat : (R : Rules) (J : ℕ → Bool) (d : List Tok) → Neat (judge R J d)
 unfolding judge
 judge-neat R J d =
-    before-neat (rootFault R d) (before (first (elementFault R) startPlace J 0 d) (keyFault R d))
-    (before-neat (first (elementFault R) startPlace J 0 d) (keyFault R d)
+    before-neat (rootFault R d) (before (first (elementFault R) (placeOf R) J 0 d) (keyFault R d))
+    (before-neat (first (elementFault R) (placeOf R) J 0 d) (keyFault R d)
     (before-neat (repeated [] (idsOf R d)) (dangling (map valueIn (idsOf R d)) (refsOf R d)) (dangling-neat (map valueIn (idsOf R d)) (refsOf R d))))
 
 -- ---- the answer to an edit in form

@@ -2,27 +2,28 @@
 -- by the outcomes that its contract allows. Assumes nothing.
 use mathlib.Core.Path.{_≡_}
 use mathlib.Core.Logic.{_↔_, _≢_, _⊎_}
-use mathlib.Core.Bool.{true}
+use mathlib.Core.Bool.{Bool, true}
 use mathlib.Core.List.{List, [], _∷_, _++_}
 use Prim.Native.Nat.{ℕ, _≤_, _<_}
 use lib.Dec.{T}
 use lib.IntN.{pos, _-ℤ_}
-use lib.ListN.{length, take}
+use lib.ListN.{length, take, getD}
 use Rattle.paper.specs.declared.Tok.{Tok}
+use Rattle.paper.specs.declared.Tok.the-variants.{Bad}
 use Rattle.paper.specs.Files.{Counted, fileOf}
 use Rattle.paper.specs.Expressions.{Expr, Matches, Marked}
 use Rattle.paper.specs.Sets.{nullable, bit, firstWord, lastWord, followWord}
-use Rattle.paper.specs.Matching.{matches}
+use Rattle.paper.specs.Matching.{matches, begins}
 use Rattle.paper.specs.Schema.{Schema, ok, stop, schemaOf}
 use Rattle.paper.specs.SchemaWritten.{schemaWritten, formed, Unambiguous, MeetsAmbiguous}
 use Rattle.paper.specs.Table.{tableLength, tableOf, proper}
-use Rattle.paper.specs.Tokens.{toks}
+use Rattle.paper.specs.Tokens.{toks, kids, close, childAt}
 use Rattle.paper.specs.Shape.{isElement, shapeOf}
 use Rattle.paper.specs.Trees.{Forest, flat, IsTree, InShape}
 use Rattle.paper.specs.TreeEdits.{TreeEdit}
 use Rattle.paper.specs.Rules.{ofSchema, ofTable}
-use Rattle.paper.specs.Judgement.{Answer, checking}
-use Rattle.paper.specs.Validity.{ValidDocument}
+use Rattle.paper.specs.Judgement.{Answer, contentGood, contentBegun, judge, checking}
+use Rattle.paper.specs.Validity.{ValidDocument, Points, PointsAt}
 use Rattle.paper.specs.Edits.{Request, Outcome, edited, formFault, written}
 use Rattle.paper.specs.Answers.{Answers, readerAnswers, writerAnswers, translatorAnswers, checkAnswers, editAnswers}
 use Rattle.promises.specs.Calls.{Calls}
@@ -41,6 +42,10 @@ ShapeExactly = (buffer : List ℕ) (used : ℕ) → (shapeOf buffer used ≡ tru
 abbrev pub MatchingMeans : Type 0
 MatchingMeans = (e : Expr) (w : List ℕ) → T (matches e w) ↔ Matches e w
 
+-- .. and so does the test whether valid content can begin with some names
+abbrev pub BeginningMeans : Type 0
+BeginningMeans = (e : Expr) (w : List ℕ) → T (begins e w) ↔ ((v : List ℕ) × Matches e (w ++ v))
+
 -- "1 if no child at all matches, else 0"
 abbrev pub NoChildMeans : Type 0
 NoChildMeans = (e : Expr) → T (nullable e) ↔ Marked 0 e []
@@ -55,6 +60,19 @@ LastMeans = (e : Expr) (k : ℕ) → T (bit (lastWord 0 e) k) ↔ ((u : List ℕ
 -- "a follow set, those that can come directly after"
 abbrev pub FollowMeans : Type 0
 FollowMeans = (e : Expr) (j k : ℕ) → T (bit (followWord 0 e j) k) ↔ ((u : List ℕ) × (v : List ℕ) × Marked 0 e (u ++ j ∷ k ∷ v))
+
+-- the place of child j, among the tokens behind an element's start: there it stands, before it stand the children before it, and past
+-- the last child it is the place of the element's end
+abbrev pub ChildPlaces : Type 0
+ChildPlaces = (j : ℕ) (d : List Tok)
+    → (j < length (kids 0 d) → getD d (childAt j 0 d) Bad ≡ getD (kids 0 d) j Bad)
+    × (kids 0 (take (childAt j 0 d) d) ≡ take j (kids 0 d))
+    × (childAt (length (kids 0 d)) 0 d ≡ close 0 d)
+
+-- "In a table we didn't translate, it is where the run has no next occurrence."
+abbrev pub PointsByRun : Type 0
+PointsByRun = (table : List ℕ) (judged : ℕ → Bool) (d : List Tok) (place : ℕ) → judge (ofTable table) judged d ≡ (9, place)
+    → Points (λ n k. T (contentBegun (ofTable table) n k)) (λ n k. T (contentGood (ofTable table) n k)) d place
 
 -- ---- files
 
@@ -217,6 +235,17 @@ module _ (calls : Calls) where
   CheckByExpressions = (s : Schema) (table : List ℕ) → Translated s table
       → (buffer : List ℕ) (used : ℕ) (o : Answer) → Checks table buffer used o
       → o ≡ checking (ofSchema s) buffer used
+
+  -- "Answer 9 shall give the first child or text at which no valid content can begin that way, or the element's end token if the children
+  -- stop too early", by the schema's own expressions
+  abbrev pub CheckPoints : Type 0
+  CheckPoints = (s : Schema) (table : List ℕ) → Translated s table
+      → (buffer : List ℕ) (used : ℕ) (o : Answer) → Checks table buffer used o → o .0 ≡ 9 → PointsAt s (toks (take used buffer)) (o .1)
+
+  abbrev pub EditPoints : Type 0
+  EditPoints = (s : Schema) (table : List ℕ) → Translated s table
+      → (buffer : List ℕ) (used : ℕ) (q : Request) (o : Outcome) → Performs table buffer used q o → o .number ≡ 9
+      → PointsAt s (toks (edited q (take used buffer))) (o .place)
 
   abbrev pub EditLeaves : Type 0
   EditLeaves = (table buffer : List ℕ) (used : ℕ) (q : Request) (o : Outcome) → Performs table buffer used q o → o .number ≡ 0 → Left buffer used q o

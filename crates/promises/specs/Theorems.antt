@@ -1,6 +1,6 @@
 -- Every promise that is proved: a line for each statement, with the proof that it cites. Those of the calls are proved of any six that
 -- allow no outcome but the paper's. Assumes nothing.
-use mathlib.Core.Path.{_≡_}
+use mathlib.Core.Path.{_≡_, _∙_}
 use mathlib.Core.Logic.{_↔_}
 use mathlib.Core.Bool.{true}
 use mathlib.Core.List.{List, [], _∷_}
@@ -16,6 +16,7 @@ use Rattle.shape_laws.specs.Tree.{shape-is-tree}
 use Rattle.shape_laws.specs.TreeDepth as tree-depth
 use Rattle.schema_laws.specs.Written.{bytes-of}
 use Rattle.judge_laws.specs.Judged.{checked-valid}
+use Rattle.judge_laws.specs.Children.{child-there, children-before, past-last}
 use Rattle.docfile.specs.Theorems.{read-write, write-read, read-write-done, write-read-done}
 use Rattle.answer_laws.specs.ReaderWriter as reader-writer
 use Rattle.answer_laws.specs.Translator as translator
@@ -29,6 +30,7 @@ use Rattle.promises.specs.Always as always
 use Rattle.promises.specs.ByTable as by-table
 use Rattle.promises.specs.ByFile as by-file
 use Rattle.promises.specs.OnTree as on-tree
+use Rattle.promises.specs.Pointing as pointing
 use Rattle.promises.specs.Run.{run-right}
 use Rattle.promises.specs.Inclusion as inclusion
 use Rattle.promises.specs.Compared as compared
@@ -44,6 +46,9 @@ shape-exactly = tree-depth.shape-exactly
 pub matching-means : promised.MatchingMeans
 matching-means = content.matching
 
+pub beginning-means : promised.BeginningMeans
+beginning-means = content.beginning
+
 pub no-child-means : promised.NoChildMeans
 no-child-means = content.nullable-means 0
 
@@ -55,6 +60,12 @@ last-means e k = rw (content.last-bits 0 e k) (content.last-means 0 e k)
 
 pub follow-means : promised.FollowMeans
 follow-means e j k = rw (content.follow-bits 0 e j k) (content.follow-means 0 e j k)
+
+pub child-places : promised.ChildPlaces
+child-places j d = (child-there j 0 d, children-before j 0 d, past-last 0 d)
+
+pub points-by-run : promised.PointsByRun
+points-by-run = pointing.points-by-run
 
 -- ---- files
 
@@ -160,6 +171,13 @@ module _ (calls : Calls) (is : Faithful calls) where
   pub check-valid : promised.CheckValid calls
   check-valid s table t buffer used o c =
       rw (check-by-expressions s table t buffer used o c) (valid-iff s table (by-paper s table t) buffer used)
+
+  pub check-points : promised.CheckPoints calls
+  check-points s table t buffer used o c = pointing.check-points s buffer used o (check-by-expressions s table t buffer used o c)
+
+  pub edit-points : promised.EditPoints calls
+  edit-points s table t buffer used q o p n =
+      pointing.edit-points s buffer used q o n (is .performs table buffer used q o p ∙ by-table.edit-judged s table (by-paper s table t) buffer used q)
 
   pub edit-leaves : promised.EditLeaves calls
   edit-leaves table buffer used q o p = always.edit-leaves table buffer used q o (is .performs table buffer used q o p)

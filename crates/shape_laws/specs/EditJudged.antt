@@ -16,7 +16,7 @@ use Rattle.paper.specs.Basics.{mostTokens, between}
 use Rattle.paper.specs.Tokens.{toks, tokOf, isStart, itemSize, values, touched}
 use Rattle.paper.specs.Shape.{isElement, shallow, shapeOf}
 use Rattle.paper.specs.Rules.{Rules}
-use Rattle.paper.specs.Judgement.{Answer, none-found, orElse, before, rootFault, keyFault, faultAt, first, startPlace, elementFault, judge, whole}
+use Rattle.paper.specs.Judgement.{Answer, none-found, orElse, before, rootFault, keyFault, faultAt, first, placeOf, elementFault, judge, whole}
 use Rattle.paper.specs.Edits.{Request, byOperation, isText, goodItem, attrWith, someValues, goodPiece, opens, opensOrEnds, atHead, attrNumber, attrCut, goodPlace, spliceAt, spliceCut, coming, splice, edited, touchedBy, fits, formFault}
 use Rattle.shape_laws.specs.Phases.{content}
 use Rattle.basic_laws.specs.Bools.{clash}
@@ -223,12 +223,12 @@ module _ (R : Rules) (room : ℕ) (q : Request) (doc : List ℕ) (e : isElement 
     unfolding judge
     judged-whole v =
         let d : List Tok = toks doc in
-        let f = none-of (rootFault R d) (before (first (elementFault R) startPlace whole 0 d) (keyFault R d)) v .1 in
-        let g = none-of (first (elementFault R) startPlace whole 0 d) (keyFault R d) f .0 in
-        let h = first-none (elementFault R) startPlace whole 0 d g in
-        let l = five-local (toks doc) e (elementFault R) startPlace h permitted in
-        let m : first (elementFault R) startPlace (touchedBy q doc) 0 (toks (edited q doc)) ≡ first (elementFault R) startPlace whole 0 (toks (edited q doc)) =
-        ap₂ (λ t x. first (elementFault R) startPlace t 0 x) (touched-toks q doc) (edited-toks q doc) ∙ sym l ∙ ap (first (elementFault R) startPlace whole 0) (sym (edited-toks q doc)) in
+        let f = none-of (rootFault R d) (before (first (elementFault R) (placeOf R) whole 0 d) (keyFault R d)) v .1 in
+        let g = none-of (first (elementFault R) (placeOf R) whole 0 d) (keyFault R d) f .0 in
+        let h = first-none (elementFault R) (placeOf R) whole 0 d g in
+        let l = five-local (toks doc) e (elementFault R) (placeOf R) h permitted in
+        let m : first (elementFault R) (placeOf R) (touchedBy q doc) 0 (toks (edited q doc)) ≡ first (elementFault R) (placeOf R) whole 0 (toks (edited q doc)) =
+        ap₂ (λ t x. first (elementFault R) (placeOf R) t 0 x) (touched-toks q doc) (edited-toks q doc) ∙ sym l ∙ ap (first (elementFault R) (placeOf R) whole 0) (sym (edited-toks q doc)) in
         ap (λ x. before (rootFault R (toks (edited q doc))) (before x (keyFault R (toks (edited q doc))))) m
 
   -- in form, it makes a document with shape

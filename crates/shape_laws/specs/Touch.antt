@@ -10,7 +10,7 @@ use lib.ListN.{length, take, drop, getD, length-take}
 use Rattle.shape_laws.specs.Ends.{rest-next, rest-none}
 use Rattle.shape_laws.specs.Local.{at-depth}
 use Rattle.shape_laws.specs.Bridge.{length-toks}
-use Rattle.paper.specs.Judgement.{faultAt, first, orElse, startPlace}
+use Rattle.paper.specs.Judgement.{faultAt, first, orElse}
 use Rattle.paper.specs.Tokens.{balanced, level, parent, run, starts, tokOf, toks, touched}
 use Rattle.paper.specs.declared.Tok.{Tok}
 use Rattle.paper.specs.declared.Tok.the-variants.{Start, End, Text, Attr, Value, Bad}
@@ -74,29 +74,29 @@ is-parent a p i e = go (parent a i) refl
     go true f = sym (eq-eqb i p (parent-one a i p f e))
     go false f = sym (ne-eqb i p (λ z. true≢false (sym e ∙ ap (parent a) (sym z) ∙ f)))
 
-module _ (fault : ℕ → List Tok → List Tok → ℕ) where
-  first-same : (f g : ℕ → Bool) (i : ℕ) (d : List Tok) → ((x : ℕ) → i ≤ x → f x ≡ g x) → first fault startPlace f i d ≡ first fault startPlace g i d
+module _ (fault : ℕ → List Tok → List Tok → ℕ) (given : ℕ → ℕ → List Tok → ℕ) where
+  first-same : (f g : ℕ → Bool) (i : ℕ) (d : List Tok) → ((x : ℕ) → i ≤ x → f x ≡ g x) → first fault given f i d ≡ first fault given g i d
   first-same f g i [] h = refl
   first-same f g i (x ∷ d) h =
-      ap₂ (λ b r. orElse (cond b (faultAt fault (x ∷ d)) 0) i r) (h i (omega arith)) (first-same f g (suc i) d (λ y l. h y (omega arith)))
+      ap₂ (λ b r. orElse (cond b (faultAt fault (x ∷ d)) 0) (given (faultAt fault (x ∷ d)) i (x ∷ d)) r) (h i (omega arith)) (first-same f g (suc i) d (λ y l. h y (omega arith)))
 
   module _ (f : ℕ → Bool) (p : ℕ) (h : (x : ℕ) → x ≤ p → f x ≡ false) where
     abbrev with-p : ℕ → Bool
     with-p x = eqb x p || f x
 
-    one-first : (i j : ℕ) (d : List Tok) → i + j ≡ p → first fault startPlace with-p i d ≡ orElse (faultAt fault (drop j d)) p (first fault startPlace f i d)
+    one-first : (i j : ℕ) (d : List Tok) → i + j ≡ p → first fault given with-p i d ≡ orElse (faultAt fault (drop j d)) (given (faultAt fault (drop j d)) p (drop j d)) (first fault given f i d)
     one-first i zero [] e = refl
     one-first i (suc j) [] e = refl
     one-first i zero (x ∷ d) e =
         let z : i ≡ p = omega arith in
         rw (h i (omega arith), eq-eqb i p z)
-        (ap₂ (orElse (faultAt fault (x ∷ d))) z (first-same with-p f (suc i) d (λ y l. ap (λ b. b || f y) (ne-eqb y p (λ w. omega arith)))))
+        (ap₂ (λ y r. orElse (faultAt fault (x ∷ d)) (given (faultAt fault (x ∷ d)) y (x ∷ d)) r) z (first-same with-p f (suc i) d (λ y l. ap (λ b. b || f y) (ne-eqb y p (λ w. omega arith)))))
     one-first i (suc j) (x ∷ d) e =
         rw (h i (omega arith), ne-eqb i p (λ w. omega arith)) (one-first (suc i) j d (omega arith))
 
   -- judging the touched places is judging the parent, and then the piece
   pub touched-is : (at n p : ℕ) (d : List Tok) → parent (take at d) p ≡ true
-      → first fault startPlace (touched at n d) 0 d ≡ orElse (faultAt fault (drop p d)) p (first fault startPlace (inside at n) 0 d)
+      → first fault given (touched at n d) 0 d ≡ orElse (faultAt fault (drop p d)) (given (faultAt fault (drop p d)) p (drop p d)) (first fault given (inside at n) 0 d)
   touched-is at n p d e =
       let l : p < at = omega (arith, parent-early (take at d) p e, length-take at d) in
       first-same (touched at n d) (with-p (inside at n) p (λ x y. rw (lt-leb at x (omega arith)))) 0 d (λ x y. ap (λ b. b || inside at n x) (is-parent (take at d) p x e))

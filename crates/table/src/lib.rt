@@ -20,7 +20,7 @@ ghost use lib.ListN.{length, getD};
 ghost use Rattle.paper.specs.Basics.{mostElements};
 ghost use Rattle.paper.specs.Table;
 ghost use Rattle.paper.specs.Table.{tableLength, blockLength, block, proper};
-ghost use Rattle.paper.specs.Rules.{start, ended};
+ghost use Rattle.paper.specs.Rules.{start, ended, goesOn};
 ghost use Rattle.table.specs.Run.{stateOf, inside, sound, Ready, Stepped};
 ghost use Rattle.table.specs.Step.{moved};
 
@@ -83,6 +83,17 @@ impl Run {
                 move_to(block, block[next], child)
             }
             Run::Lost => Run::Lost,
+        }
+    }
+
+    // The last child had a next occurrence.
+    pub fn goes_on(self) -> bool
+        ensures { λ r. ⌜ r ≡ goesOn (stateOf self) ⌝ }
+    {
+        match self {
+            Run::Start => true,
+            Run::At(_) => true,
+            Run::Lost => false,
         }
     }
 

@@ -14,7 +14,7 @@ use Rattle.basic_laws.specs.Bools.{both}
 use Rattle.content_laws.specs.Symbols.{exprOf-iff, range-names}
 use Rattle.paper.specs.Expressions.{Expr, names, count}
 use Rattle.paper.specs.Sets.{ambiguous}
-use Rattle.table_laws.specs.SameRules.{Fine}
+use Rattle.table_laws.specs.Blocks.{Fine}
 use Rattle.table_laws.specs.Readers.{after, never-stop, number-in, finished-same}
 
 -- ---- names below E

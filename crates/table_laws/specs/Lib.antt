@@ -1,6 +1,7 @@
 -- Laws of schemas and tables. What is proved stands in `Translated`.
 pub mod Readers
 pub mod Parts
+pub mod Blocks
 pub mod SameRules
 pub mod Accepted
 pub mod ProperSets

@@ -12,7 +12,7 @@ use Rattle.paper.specs.Table.{setOf, ofKind, isRequired, blockOf, within, apart
 use Rattle.paper.specs.Sets.{bit}
 use Rattle.basic_laws.specs.Bools.{clash, both}
 use Rattle.paper_laws.specs.Basics.{every-iff}
-use Rattle.table_laws.specs.SameRules.{set-bit}
+use Rattle.table_laws.specs.Blocks.{set-bit}
 use Rattle.table_laws.specs.Accepted.{Rising}
 
 module _ (l : List Attribute) where

@@ -22,7 +22,8 @@ use Rattle.paper_laws.specs.Basics.{length-pad, length-from, every-iff}
 use Rattle.paper_laws.specs.Chosen.{Free, distinct-iff}
 use Rattle.content_laws.specs.Words.{first-word, follow-word, first-fits, last-fits, follow-fits}
 use Rattle.content_laws.specs.Ambiguity.{Clash, ambiguous-iff}
-use Rattle.table_laws.specs.SameRules.{Fine, not-ambiguous, FineAll, none-left as no-more, one-more as and-more, ten, length-block, block-in}
+use Rattle.table_laws.specs.Blocks.{Fine, not-ambiguous, ten}
+use Rattle.table_laws.specs.SameRules.{FineAll, none-left as no-more, one-more as and-more, length-block, block-in}
 use Rattle.table_laws.specs.Accepted.{Good, GoodElement, GoodAll, none-left, one-more, GoodSchema}
 use Rattle.table_laws.specs.ProperSets.{sets-proper}
 

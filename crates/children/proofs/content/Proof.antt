@@ -13,8 +13,8 @@ cell-requires c κs = search needs
 cast-if1 : tie.Need-cast-if1
 cast-if1 c = search needs
 
-only-texts-requires : tie.Need-only-texts-requires
-only-texts-requires c κs = search needs
+texts-stop-requires : tie.Need-texts-stop-requires
+texts-stop-requires c κs = search needs
 
 returns : tie.Need-returns
 returns c = search content-texts
@@ -22,8 +22,8 @@ returns c = search content-texts
 block-of-requires : tie.Need-block-of-requires
 block-of-requires c κs = let s = c .before .before .before .before .before in omega (arith, table-parts (s .args .table .now) (s .pre .0 .0))
 
-modelled-requires : tie.Need-modelled-requires
-modelled-requires c κs = search (needs, ready-table)
+model-stop-requires : tie.Need-model-stop-requires
+model-stop-requires c κs = search (needs, ready-table)
 
 returns-2 : tie.Need-returns-2
 returns-2 c = search content-model
@@ -34,8 +34,8 @@ content-spec =
     (tie.spec
     cell-requires
     cast-if1
-    only-texts-requires
+    texts-stop-requires
     returns
     block-of-requires
-    modelled-requires
+    model-stop-requires
     returns-2)

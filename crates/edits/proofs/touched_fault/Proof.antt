@@ -16,11 +16,8 @@ first-fault-requires c κs = search needs
 returns : tie.Need-returns
 returns c = search touched-alone
 
-element-number-requires : tie.Need-element-number-requires
-element-number-requires c κs = search needs
-
-cast-t11 : tie.Need-cast-t11
-cast-t11 c = search needs
+element-fault-requires : tie.Need-element-fault-requires
+element-fault-requires c κs = search needs
 
 returns-2 : tie.Need-returns-2
 returns-2 c = search touched-parent
@@ -42,8 +39,7 @@ touched-fault-spec =
     add-first-fault
     first-fault-requires
     returns
-    element-number-requires
-    cast-t11
+    element-fault-requires
     returns-2
     add-first-fault-2
     first-fault-requires-2

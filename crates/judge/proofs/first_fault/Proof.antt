@@ -14,14 +14,11 @@ abbrev μ-loop : tie.MeasureT-loop
 loop-holds : tie.Need-loop-holds Inv-loop μ-loop
 loop-holds c = search looking-begin
 
-element-number-requires : tie.Need-element-number-requires Inv-loop μ-loop
-element-number-requires c κs = search needs
+element-fault-requires : tie.Need-element-fault-requires Inv-loop μ-loop
+element-fault-requires c κs = search needs
 
 add-i : tie.Need-add-i Inv-loop μ-loop
 add-i c = search needs
-
-cast-t11 : tie.Need-cast-t11 Inv-loop μ-loop
-cast-t11 c = search needs
 
 returns : tie.Need-returns Inv-loop μ-loop
 returns c = search looking-found
@@ -42,9 +39,8 @@ first-fault-spec =
     Inv-loop
     μ-loop
     loop-holds
-    element-number-requires
+    element-fault-requires
     add-i
-    cast-t11
     returns
     loop-less
     loop-again

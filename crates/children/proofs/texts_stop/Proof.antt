@@ -1,9 +1,9 @@
--- `children::only_texts` meets its contract. The loop's invariant is `Reading`; the measure is how many tokens are left. Assumes nothing.
+-- `children::texts_stop` meets its contract. The loop's invariant is `Reading`; the measure is how many tokens are left. Assumes nothing.
 use Prim.Native.Nat.{_-_}
 use borrow.Author.Needs.{needs}
 use Rattle.children.specs.Texts.{Reading, reading-begin, reading-out, reading-end, reading-start, reading-other, reading-more, reading-text}
-use Rattle.children.proofs.only_texts.Statement.{statement}
-use Rattle.children.proofs.only_texts.Tie as tie
+use Rattle.children.proofs.texts_stop.Statement.{statement}
+use Rattle.children.proofs.texts_stop.Tie as tie
 
 abbrev Inv-loop : tie.InvT-loop
 Inv-loop doc used at most left₀ i₀ left i = Reading doc used at most i left
@@ -59,8 +59,8 @@ returns-3 c = search reading-out
 returns-4 : tie.Need-returns-4 Inv-loop μ-loop
 returns-4 c = search reading-end
 
-pub only-texts-spec : {M : Type 1} → statement M
-only-texts-spec =
+pub texts-stop-spec : {M : Type 1} → statement M
+texts-stop-spec =
     tie.close
     (tie.spec
     Inv-loop

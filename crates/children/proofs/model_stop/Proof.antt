@@ -1,10 +1,9 @@
--- `children::modelled` meets its contract. The loop's invariant is `Running`; the measure is how many tokens are left. Assumes nothing.
+-- `children::model_stop` meets its contract. The loop's invariant is `Running`; the measure is how many tokens are left. Assumes nothing.
 use Prim.Native.Nat.{_-_}
-use mathlib.Core.Logic.{⊎-elim}
 use borrow.Author.Needs.{needs}
-use Rattle.children.specs.Model.{Running, running-begin, running-out, running-end, running-text, running-child, child-on, running-other}
-use Rattle.children.proofs.modelled.Statement.{statement}
-use Rattle.children.proofs.modelled.Tie as tie
+use Rattle.children.specs.Model.{Running, running-begin, running-out, running-end, running-text, running-lost, running-child, child-on, running-other}
+use Rattle.children.proofs.model_stop.Statement.{statement}
+use Rattle.children.proofs.model_stop.Tie as tie
 
 abbrev Inv-loop : tie.InvT-loop
 Inv-loop block doc used closes at run₀ i₀ run i = Running block doc used at i run
@@ -33,6 +32,12 @@ number-requires c κs = search needs
 step-requires : tie.Need-step-requires Inv-loop μ-loop
 step-requires c κs = search needs
 
+goes-on-requires : tie.Need-goes-on-requires Inv-loop μ-loop
+goes-on-requires c κs = search needs
+
+returns : tie.Need-returns Inv-loop μ-loop
+returns c = search running-lost
+
 behind-requires : tie.Need-behind-requires Inv-loop μ-loop
 behind-requires c κs = search needs
 
@@ -45,11 +50,17 @@ loop-again c = search running-child
 is-end-requires : tie.Need-is-end-requires Inv-loop μ-loop
 is-end-requires c κs = search needs
 
+end-stop-requires : tie.Need-end-stop-requires Inv-loop μ-loop
+end-stop-requires c κs = search needs
+
+returns-2 : tie.Need-returns-2 Inv-loop μ-loop
+returns-2 c = search running-end
+
 is-text-requires : tie.Need-is-text-requires Inv-loop μ-loop
 is-text-requires c κs = search needs
 
-returns : tie.Need-returns Inv-loop μ-loop
-returns c = search running-text
+returns-3 : tie.Need-returns-3 Inv-loop μ-loop
+returns-3 c = search running-text
 
 add-i : tie.Need-add-i Inv-loop μ-loop
 add-i c = search needs
@@ -60,14 +71,14 @@ loop-less-2 c = search needs
 loop-again-2 : tie.Need-loop-again-2 Inv-loop μ-loop
 loop-again-2 c = search running-other
 
-may-end-requires : tie.Need-may-end-requires Inv-loop μ-loop
-may-end-requires c κs = search needs
+end-stop-requires-2 : tie.Need-end-stop-requires-2 Inv-loop μ-loop
+end-stop-requires-2 c κs = search needs
 
-returns-2 : tie.Need-returns-2 Inv-loop μ-loop
-returns-2 c = ⊎-elim (λ w. search running-out) (λ w. search running-end) (c .before .loop-test .came)
+returns-4 : tie.Need-returns-4 Inv-loop μ-loop
+returns-4 c = search running-out
 
-pub modelled-spec : {M : Type 1} → statement M
-modelled-spec =
+pub model-stop-spec : {M : Type 1} → statement M
+model-stop-spec =
     tie.close
     (tie.spec
     Inv-loop
@@ -79,14 +90,18 @@ modelled-spec =
     is-start-requires
     number-requires
     step-requires
+    goes-on-requires
+    returns
     behind-requires
     loop-less
     loop-again
     is-end-requires
+    end-stop-requires
+    returns-2
     is-text-requires
-    returns
+    returns-3
     add-i
     loop-less-2
     loop-again-2
-    may-end-requires
-    returns-2)
+    end-stop-requires-2
+    returns-4)

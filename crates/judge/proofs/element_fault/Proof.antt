@@ -1,12 +1,11 @@
--- `judge::element_number` meets its contract. Assumes nothing.
-use native.Mathlib.Omega.{arith}
+-- `judge::element_fault` meets its contract. Assumes nothing.
 use borrow.Author.Needs.{needs}
-use Rattle.judge.specs.Elements.{number-past, number-start, number-other}
-use Rattle.judge.proofs.element_number.Statement.{statement}
-use Rattle.judge.proofs.element_number.Tie as tie
+use Rattle.judge.specs.Elements.{fault-past, fault-start, fault-other}
+use Rattle.judge.proofs.element_fault.Statement.{statement}
+use Rattle.judge.proofs.element_fault.Tie as tie
 
 returns : tie.Need-returns
-returns c = search number-past
+returns c = search fault-past
 
 mul-t : tie.Need-mul-t
 mul-t c = search needs
@@ -18,22 +17,19 @@ is-start-requires : tie.Need-is-start-requires
 is-start-requires c κs = search needs
 
 returns-2 : tie.Need-returns-2
-returns-2 c = search number-other
+returns-2 c = search fault-other
 
 number-requires : tie.Need-number-requires
 number-requires c κs = search needs
 
-add-fault-from : tie.Need-add-fault-from
-add-fault-from c = search needs
-
 fault-from-requires : tie.Need-fault-from-requires
-fault-from-requires c κs = (search needs, (search needs, omega arith))
+fault-from-requires c κs = search needs
 
 returns-3 : tie.Need-returns-3
-returns-3 c = search number-start
+returns-3 c = search fault-start
 
-pub element-number-spec : {M : Type 1} → statement M
-element-number-spec =
+pub element-fault-spec : {M : Type 1} → statement M
+element-fault-spec =
     tie.close
     (tie.spec
     returns
@@ -42,6 +38,5 @@ element-number-spec =
     is-start-requires
     returns-2
     number-requires
-    add-fault-from
     fault-from-requires
     returns-3)
