@@ -126,7 +126,8 @@ impl fmt::Display for Refusal {
 
 impl std::error::Error for Refusal {}
 
-/// A refusal by a table, and where: the index of a token, 0 where the refusal has no place.
+/// A refusal by a table, and where: the index of a token, 0 where the refusal has no place. For [`Refusal::Content`] it is the first child or
+/// text at which no valid content can begin that way, or the end of the element if its children stop too early.
 #[derive(Clone, Copy, Debug, PartialEq, Eq, Hash)]
 pub struct Fault {
     /// why

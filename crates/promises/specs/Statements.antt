@@ -3,18 +3,18 @@
 use mathlib.Core.Path.{_≡_}
 use mathlib.Core.Logic.{_↔_, _≢_, _⊎_}
 use mathlib.Core.Bool.{Bool, true}
-use mathlib.Core.List.{List, [], _∷_, _++_}
+use mathlib.Core.List.{List, [], _∷_, _++_, map}
 use Prim.Native.Nat.{ℕ, _≤_, _<_}
 use lib.Dec.{T}
 use lib.IntN.{pos, _-ℤ_}
 use lib.ListN.{length, take, getD}
 use Rattle.paper.specs.declared.Tok.{Tok}
-use Rattle.paper.specs.declared.Tok.the-variants.{Bad}
+use Rattle.paper.specs.declared.Tok.the-variants.{Start, Bad}
 use Rattle.paper.specs.Files.{Counted, fileOf}
 use Rattle.paper.specs.Expressions.{Expr, Matches, Marked}
 use Rattle.paper.specs.Sets.{nullable, bit, firstWord, lastWord, followWord}
 use Rattle.paper.specs.Matching.{matches, begins}
-use Rattle.paper.specs.Schema.{Schema, ok, stop, schemaOf}
+use Rattle.paper.specs.Schema.{model, Schema, ok, stop, schemaOf}
 use Rattle.paper.specs.SchemaWritten.{schemaWritten, formed, Unambiguous, MeetsAmbiguous}
 use Rattle.paper.specs.Table.{tableLength, tableOf, proper}
 use Rattle.paper.specs.Tokens.{toks, kids, close, childAt}
@@ -23,7 +23,7 @@ use Rattle.paper.specs.Trees.{Forest, flat, IsTree, InShape}
 use Rattle.paper.specs.TreeEdits.{TreeEdit}
 use Rattle.paper.specs.Rules.{ofSchema, ofTable}
 use Rattle.paper.specs.Judgement.{Answer, contentGood, contentBegun, judge, checking}
-use Rattle.paper.specs.Validity.{ValidDocument, Points, PointsAt}
+use Rattle.paper.specs.Validity.{ValidDocument, Points, Begun, PointsAt}
 use Rattle.paper.specs.Edits.{Request, Outcome, edited, formFault, written}
 use Rattle.paper.specs.Answers.{Answers, readerAnswers, writerAnswers, translatorAnswers, checkAnswers, editAnswers}
 use Rattle.promises.specs.Calls.{Calls}
@@ -45,6 +45,10 @@ MatchingMeans = (e : Expr) (w : List ℕ) → T (matches e w) ↔ Matches e w
 -- .. and so does the test whether valid content can begin with some names
 abbrev pub BeginningMeans : Type 0
 BeginningMeans = (e : Expr) (w : List ℕ) → T (begins e w) ↔ ((v : List ℕ) × Matches e (w ++ v))
+
+-- which is what it is, of a model, that valid content begins with elements of these names
+abbrev pub BegunMeans : Type 0
+BegunMeans = (e : Expr) (w : List ℕ) → Begun (model e) (map Start w) ↔ ((v : List ℕ) × Matches e (w ++ v))
 
 -- "1 if no child at all matches, else 0"
 abbrev pub NoChildMeans : Type 0

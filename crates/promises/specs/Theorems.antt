@@ -16,6 +16,7 @@ use Rattle.shape_laws.specs.Tree.{shape-is-tree}
 use Rattle.shape_laws.specs.TreeDepth as tree-depth
 use Rattle.schema_laws.specs.Written.{bytes-of}
 use Rattle.judge_laws.specs.Judged.{checked-valid}
+use Rattle.judge_laws.specs.Begun.{names-begun}
 use Rattle.judge_laws.specs.Children.{child-there, children-before, past-last}
 use Rattle.docfile.specs.Theorems.{read-write, write-read, read-write-done, write-read-done}
 use Rattle.answer_laws.specs.ReaderWriter as reader-writer
@@ -48,6 +49,9 @@ matching-means = content.matching
 
 pub beginning-means : promised.BeginningMeans
 beginning-means = content.beginning
+
+pub begun-means : promised.BegunMeans
+begun-means = names-begun
 
 pub no-child-means : promised.NoChildMeans
 no-child-means = content.nullable-means 0
