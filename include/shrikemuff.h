@@ -1,8 +1,9 @@
 /* shrikemuff.h: small XML documents, held as tokens, kept to their schema.
  *
- * Six calls: a document file is read into tokens and written from them; a schema file is translated to a table; a document is checked
- * by a table; a document is edited, and stays as it was unless the edited document keeps to the schema; two tables are compared, whether
- * the new one takes what the old one takes in an element. A seventh tells the library's version.
+ * Nine calls: a document file is read into tokens and written from them; a DTD's text becomes a schema file, its names are listed, and the
+ * spot is told at which it is refused; a schema file is translated to a table; a document is checked by a table; a document is edited, and
+ * stays as it was unless the edited document keeps to the schema; two tables are compared, whether the new one takes what the old one takes
+ * in an element. A tenth tells the library's version.
  * Link libshrikemuff.a. ISO C99, and C++; Linux on x86-64.
  *
  * What each call answers, and what it leaves in every place of the memory lent to it, is proved of the source that the library is compiled
@@ -27,6 +28,9 @@
  *
  *     shrike_read                     under 33,000
  *     shrike_write, shrike_version    under 100
+ *     shrike_import                   under 37,000
+ *     shrike_names                    under 10,000
+ *     shrike_import_spot              under 10,000
  *     shrike_translate                under 104,000
  *     shrike_check                    under 100,000
  *     shrike_edit                     under 133,000
@@ -57,6 +61,47 @@
  * call. A file of more is written in parts, each behind the last.
  *
  *
+ * DTD TEXTS
+ *
+ * A DTD's text is any bytes; those that are taken are XML 1.0's external subset cut down to this:
+ *
+ *     text     ::=  (S | comment | element | attlist)*
+ *     element  ::=  '<!ELEMENT' S name S ('EMPTY' | '(' S? '#PCDATA' S? ')' | bracket suffix?) S? '>'
+ *     bracket  ::=  '(' S? part (S? ',' S? part)* S? ')'  |  '(' S? part (S? '|' S? part)+ S? ')'
+ *     part     ::=  (name | bracket) suffix?
+ *     suffix   ::=  '?' | '*' | '+'
+ *     attlist  ::=  '<!ATTLIST' S name (S name S kind S status)* S? '>'
+ *     kind     ::=  'CDATA' | 'ID' | 'IDREF' | 'IDREFS'
+ *     status   ::=  '#REQUIRED' | '#IMPLIED'
+ *     comment  ::=  '<!--', Chars of XML 1.0 in UTF-8 with no '--' among them and no '-' at their end, '-->'
+ *     name     ::=  an ASCII letter, '_' or ':', then any number of those, of digits, of '-' and of '.'; as long as it goes
+ *     S        ::=  one or more of the bytes 32, 9, 13 and 10
+ *
+ * Brackets may nest as deep as the text is long. A keyword may be a name too. Outside are a byte order mark, a text declaration,
+ * instructions, entities and references to them, notations, conditional sections, ANY, mixed content, enumerations, NMTOKEN and the like,
+ * default values and #FIXED.
+ *
+ * The schema file of a text is this one. Elements are numbered by declaration, and the first is the root. Attributes are numbered by first
+ * appearance in the whole text, one number for each different name. EMPTY is kind 0, (#PCDATA) kind 1, a model kind 2. A suffix is one
+ * symbol before what it stands behind. A bracket round one part is that part; (a,b,c) is a and then the pair b, c, and a choice likewise.
+ * Nothing is simplified: ((a?)?) has the symbols 2 2 5+a. An element's attributes are those of all its ATTLISTs, wherever they stand.
+ *
+ * The text is read once from the front, and the first fault that is met decides. The spot at which it is refused stands behind each:
+ *
+ *     14  a byte that cannot go on: that byte, in a keyword the first that leaves every allowed word; the text's length, if it stops too early
+ *     14  an element that was declared before, an attribute that was declared before for the same element; met where the name ends, before
+ *         the limits: the name's first byte
+ *      2  a 49th element, a 65th different name of an attribute, met where the name ends: the name's first byte
+ *      2  a second ID of an element, over all its ATTLISTs, met behind its kind: the kind's first byte
+ *      2  a model of over 255 symbols or with over 64 names, met behind its last bracket and suffix: its first bracket
+ *     14  at the end, if no element was declared: the text's length
+ *     14  at the end, an element that a model or an ATTLIST names and nothing declares: the first byte of the first such name in the text
+ *      5  last of all, no room; no spot goes with it
+ *
+ * Whether a model is ambiguous is asked by shrike_translate (3), and nothing else in a file that shrike_import wrote is refused there. The
+ * table then judges content by the text's own expressions.
+ *
+ *
  * TOKENS
  *
  * Names and strings are numbers: the host keeps the strings, one number for each different string. A token is number * 8 + sort, the
@@ -80,7 +125,8 @@
  *
  * TABLES
  *
- * A table is a schema as the check, the edits and the comparison use it; a host need not look into it. Word 0 is the number of elements E, word 1 the root.
+ * A table is a schema as the check, the edits and the comparison use it; a host need not look into it. Word 0 is the number of elements E,
+ * word 1 the root.
  * From SHRIKE_BLOCKS_AT on stands a block of SHRIKE_BLOCK_WORDS words for each of 48 elements. It holds, each from its SHRIKE_.._AT on:
  * the kind; the sets of attributes that are allowed, required, ID, IDREF and IDREFS, bit k for attribute k; the number n of names that
  * occur in the model; 1 if no child at all matches, else 0; the sets of occurrences that can be first, and last, bit k for occurrence k,
@@ -90,22 +136,23 @@
  *
  * ANSWERS
  *
- *                                                   read  write  translate  check  edit  compare
- *      0  valid, or done                              *     *        *        *     *      *
- *      1  broken number                               *              *
- *      2  schema value, form or limit                                *
- *      3  ambiguous model                                            *
- *      4  no shape, or bad piece                            *                 *     *
- *      5  too large, or no room                       *     *                       *      *
- *      6  operation, place or element                                               *      *
- *      7  name: the element is not declared                                         *
- *      8  attributes                                                          *     *
- *      9  content                                                             *     *
- *     10  root: not the schema's                                              *     *
- *     11  ID twice                                                            *     *
- *     12  reference to no ID                                                  *     *
- *     13  table: not of 6,626 words, or not proper                   *        *     *      *
- *     16  kind not compared                                                                *
+ *                                                   read  write  import  names  spot  translate  check  edit  compare
+ *      0  valid, or done                              *     *       *      *      *       *        *      *      *
+ *      1  broken number                               *                                   *
+ *      2  schema value, form or limit                               *      *      *       *
+ *      3  ambiguous model                                                                 *
+ *      4  no shape, or bad piece                            *                                      *      *
+ *      5  too large, or no room                       *     *       *      *                              *      *
+ *      6  operation, place or element                                                                     *      *
+ *      7  name: the element is not declared                                                               *
+ *      8  attributes                                                                               *      *
+ *      9  content                                                                                  *      *
+ *     10  root: not the schema's                                                                   *      *
+ *     11  ID twice                                                                                 *      *
+ *     12  reference to no ID                                                                       *      *
+ *     13  table: not of 6,626 words, or not proper                                        *        *      *      *
+ *     14  DTD text                                                  *      *      *
+ *     16  kind not compared                                                                                      *
  *
  * A call gives the first that applies, in the order that stands with it. shrike_words(number) says an answer in words.
  *
@@ -133,15 +180,16 @@ extern "C" {
 
 /* Limits: the most that is taken. */
 enum {
-    SHRIKE_MOST_TOKENS = 8192,    /* tokens of a document, or of a piece */
-    SHRIKE_MOST_BYTES = 24576,    /* bytes of a document's file: three for each token */
-    SHRIKE_MOST_DEEP = 64,        /* depth of a document, or of a piece, the root at 1 */
-    SHRIKE_MOST_NUMBER = 65535,   /* number of a token */
-    SHRIKE_MOST_VALUE = 2097151,  /* number in a file */
-    SHRIKE_MOST_ELEMENTS = 48,    /* elements of a schema */
-    SHRIKE_MOST_SYMBOLS = 255,    /* symbols of a model */
-    SHRIKE_MOST_NAMES = 64,       /* names that occur in a model */
-    SHRIKE_MOST_ATTRIBUTES = 64   /* attributes of an element; their numbers are below it */
+    SHRIKE_MOST_TOKENS = 8192,       /* tokens of a document, or of a piece */
+    SHRIKE_MOST_BYTES = 24576,       /* bytes of a document's file: three for each token */
+    SHRIKE_MOST_DEEP = 64,           /* depth of a document, or of a piece, the root at 1 */
+    SHRIKE_MOST_NUMBER = 65535,      /* number of a token */
+    SHRIKE_MOST_VALUE = 2097151,     /* number in a file */
+    SHRIKE_MOST_ELEMENTS = 48,       /* elements of a schema */
+    SHRIKE_MOST_SYMBOLS = 255,       /* symbols of a model */
+    SHRIKE_MOST_NAMES = 64,          /* names that occur in a model */
+    SHRIKE_MOST_ATTRIBUTES = 64,     /* attributes of an element; their numbers are below it */
+    SHRIKE_MOST_SCHEMA_FILE = 21650  /* bytes of the schema file of a DTD text */
 };
 
 /* Sorts of tokens. */
@@ -235,6 +283,7 @@ enum {
     SHRIKE_ID_TWICE = 11,
     SHRIKE_NO_ID = 12,
     SHRIKE_TABLE = 13,
+    SHRIKE_DTD_TEXT = 14,
     SHRIKE_NOT_COMPARED = 16
 };
 
@@ -264,6 +313,7 @@ static inline const char *shrike_words(uint32_t number) {
     case SHRIKE_ID_TWICE: return "ID twice";
     case SHRIKE_NO_ID: return "reference to none";
     case SHRIKE_TABLE: return "table";
+    case SHRIKE_DTD_TEXT: return "DTD text";
     case SHRIKE_NOT_COMPARED: return "kind not compared";
     default: return "unknown answer";
     }
@@ -274,10 +324,16 @@ static inline int shrike_serves(uint32_t version) {
     return version / 1000000 == SHRIKE_VERSION / 1000000 && version / 1000 >= SHRIKE_VERSION / 1000;
 }
 
-/* The answer of shrike_read and shrike_write. count: the tokens read, or the bytes written; 0 when refused. */
+/* The answer of shrike_read, shrike_write, shrike_import and shrike_names. count: the tokens read, or the bytes written; 0 when refused. */
 typedef struct {
     uint32_t number, count;
 } shrike_count;
+
+/* The answer of shrike_import_spot. offset: of a byte in the text, from 0, or the text's length. A text that is taken gives 0 for both. */
+typedef struct {
+    uint32_t number;
+    uint64_t offset;
+} shrike_spot;
 
 /* The answer of shrike_check. */
 typedef struct {
@@ -312,6 +368,22 @@ shrike_count shrike_read(const uint8_t *file, size_t file_len, uint32_t *tokens,
  *
  * Order: over 8,192 tokens (5); a token over 2,097,151 (4); too little room (5). SHRIKE_MOST_BYTES bytes are always enough. */
 shrike_count shrike_write(const uint32_t *tokens, size_t n, uint8_t *file, size_t room);
+
+/* Writes the schema file of the DTD text into the first bytes of `file`; the bytes behind keep their contents.
+ *
+ * Order: the text (14 and 2, as DTD TEXTS above has them); too little room (5). SHRIKE_MOST_SCHEMA_FILE bytes are always enough. */
+shrike_count shrike_import(const uint8_t *text, size_t n, uint8_t *file, size_t room);
+
+/* Writes the names of the DTD text into the first bytes of `names`, each ended by byte 10: those of the elements by number, then those of the
+ * attributes by number. The bytes behind keep their contents.
+ *
+ * Order: the text (14 and 2); too little room, or over 4,294,967,295 bytes (5). Each name stands in the text with white space behind it, so
+ * that `n` bytes are always enough. */
+shrike_count shrike_names(const uint8_t *text, size_t n, uint8_t *names, size_t room);
+
+/* Where the DTD text is refused, and with which number: that of shrike_import and shrike_names, but for their 5. A host that counts the
+ * bytes 10 before the offset can say line and column. */
+shrike_spot shrike_import_spot(const uint8_t *text, size_t n);
 
 /* Translates the schema file `file` to a table, and answers a number. `words` is SHRIKE_TABLE_WORDS.
  *

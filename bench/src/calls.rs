@@ -1,9 +1,15 @@
-//! The six calls and their answers, as every contender of the benchmark offers them.
+//! The nine calls and their answers, as every contender of the benchmark offers them.
 
 #[derive(Clone, Copy, Debug, PartialEq, Eq)]
 pub struct Count {
     pub number: u32,
     pub count: u32,
+}
+
+#[derive(Clone, Copy, Debug, PartialEq, Eq)]
+pub struct Spot {
+    pub number: u32,
+    pub offset: u64,
 }
 
 #[derive(Clone, Copy, Debug, PartialEq, Eq)]
@@ -46,6 +52,9 @@ pub trait Calls {
     fn name(&self) -> &'static str;
     fn read(&self, file: &[u8], tokens: &mut [u32]) -> Count;
     fn write(&self, tokens: &[u32], file: &mut [u8]) -> Count;
+    fn import(&self, text: &[u8], file: &mut [u8]) -> Count;
+    fn names(&self, text: &[u8], names: &mut [u8]) -> Count;
+    fn import_spot(&self, text: &[u8]) -> Spot;
     fn translate(&self, file: &[u8], table: &mut [u64]) -> u32;
     fn check(&self, table: &[u64], buffer: &[u32], used: u64) -> Verdict;
     fn edit(&self, table: &[u64], buffer: &mut [u32], used: u64, operation: u32, place: u64, piece: &[u32]) -> Answer;

@@ -1,12 +1,15 @@
 //! What is timed: inputs, how each contender runs them, and whether the contenders agree.
 
-use bench::calls::{Answer, Calls, Compared, Count, Edit, Verdict};
+use bench::calls::{Answer, Calls, Compared, Count, Edit, Spot, Verdict};
 use bench::plain::{PLACES, WORDS};
 use std::rc::Rc;
 
 #[cfg(feature = "libxml2")]
 use crate::libxml2;
 use crate::timing::{from_outside, repeat, repeat_pair, Job};
+
+/// The most bytes of a schema file that is made of a DTD's text.
+const FILE: usize = 21_650;
 
 /// One input. Tables are shared; a buffer is the document and the places after it.
 #[cfg_attr(not(feature = "libxml2"), allow(dead_code))]
@@ -46,6 +49,12 @@ pub enum Input {
     Translate {
         file: Vec<u8>,
     },
+    /// A DTD's text that is imported, or refused with `number`. `taken`: libxml2 takes it too.
+    Import {
+        text: Vec<u8>,
+        number: u32,
+        taken: bool,
+    },
     /// Element 0 of two tables: the length of what is lost, if anything is.
     Compare {
         old: Vec<u64>,
@@ -69,6 +78,7 @@ struct Outcome {
     verdicts: Vec<Verdict>,
     answers: Vec<Answer>,
     compared: Vec<Compared>,
+    spots: Vec<Spot>,
     tokens: Vec<Vec<u32>>,
     bytes: Vec<u8>,
     table: Vec<u64>,
@@ -96,6 +106,7 @@ impl Input {
             Input::Check { text: Some(text), number, .. } => libxml2::Tree::parse(text).is_valid() == (*number == 0),
             Input::Pair { texts, .. } => texts.iter().all(|text| libxml2::Tree::parse(text).is_valid()),
             Input::Load { text, .. } => libxml2::load(text),
+            Input::Import { text, taken: true, .. } => libxml2::import(text),
             _ => true,
         };
         if agrees {
@@ -149,6 +160,14 @@ impl Input {
                 outcome.numbers.push(calls.translate(file, &mut lent));
                 outcome.table = lent;
                 outcome.numbers[0] == 0
+            }
+            Input::Import { text, number, .. } => {
+                let mut lent = vec![7; FILE + text.len()];
+                let (file, names) = lent.split_at_mut(FILE);
+                outcome.counts.extend([calls.import(text, file), calls.names(text, names)]);
+                outcome.spots.push(calls.import_spot(text));
+                outcome.bytes = lent;
+                outcome.counts.iter().all(|count| count.number == *number) && outcome.spots[0].number == *number
             }
             Input::Compare { old, new, lost } => {
                 let mut lent = vec![7; PLACES + 3];
@@ -206,6 +225,10 @@ impl Input {
                 let mut lent = vec![0; WORDS];
                 Box::new(move |count| repeat(count, || assert_eq!(calls.translate(from_outside(&file[..]), &mut lent), 0)))
             }
+            Input::Import { text, number, .. } => {
+                let mut lent = vec![0; FILE];
+                Box::new(move |count| repeat(count, || assert_eq!(calls.import(from_outside(&text[..]), &mut lent).number, *number)))
+            }
             Input::Compare { old, new, lost } => {
                 let mut lent = vec![0; PLACES];
                 Box::new(move |count| {
@@ -237,6 +260,7 @@ impl Input {
                 Some(Box::new(move |count| repeat_pair(count, &mut trees, |trees| step(trees, 0), |trees| step(trees, 1))))
             }
             Input::Load { text, .. } => Some(Box::new(move |count| repeat(count, || assert!(libxml2::load(text))))),
+            Input::Import { text, taken: true, .. } => Some(Box::new(move |count| repeat(count, || assert!(libxml2::import(text))))),
             _ => None,
         }
     }

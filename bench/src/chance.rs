@@ -3,8 +3,11 @@
 use bench::calls::{Calls, Edit};
 use bench::documents::{file, Dice, Mix, MIXES};
 use bench::plain::{PLACES, WORDS};
+use bench::texts;
 
 const TOKENS: usize = 420;
+/// Bytes that a DTD's text may or may not have where they are put.
+const MARKS: &[u8] = b"<>!-()#,|?*+ \n\x7f\xc3\xffaAE:_.9IDRS";
 
 /// Runs `count` rounds of calls for each mix. The count of calls, or what differs.
 pub fn agree(contenders: &[&dyn Calls], count: u32) -> Result<u64, String> {
@@ -13,7 +16,7 @@ pub fn agree(contenders: &[&dyn Calls], count: u32) -> Result<u64, String> {
         let mut dice = Dice::new(k as u64 + 7);
         for round in 0..count {
             agree_once(contenders, mix, &mut dice).map_err(|what| format!("{}, round {}: {}", mix.name(), round, what))?;
-            calls += 6;
+            calls += 9;
         }
     }
     Ok(calls)
@@ -82,6 +85,19 @@ fn agree_once(contenders: &[&dyn Calls], mix: Mix, dice: &mut Dice) -> Result<()
         let mut lent = vec![7; room];
         (calls.read(&bytes, &mut lent), lent)
     })?;
+
+    let mut text = texts::by_chance(dice);
+    disturb(&mut text, dice, |byte, dice| *byte = MARKS[dice.below(MARKS.len() as u32) as usize]);
+    let room = dice.below(60) as usize;
+    same("import", contenders, |calls| {
+        let mut lent = vec![7; room];
+        (calls.import(&text, &mut lent), lent)
+    })?;
+    same("names", contenders, |calls| {
+        let mut lent = vec![7; room];
+        (calls.names(&text, &mut lent), lent)
+    })?;
+    same("import_spot", contenders, |calls| calls.import_spot(&text))?;
 
     let room = file(&tokens).len() + dice.below(4) as usize - 2;
     same("write", contenders, |calls| {

@@ -4,4 +4,5 @@
 pub mod calls;
 pub mod documents;
 pub mod plain;
+pub mod texts;
 pub mod xml;

@@ -1,4 +1,4 @@
-//! libxml2, as a host uses it: an XML text with its DTD is parsed to a tree, and the tree is validated whole.
+//! libxml2, as a host uses it: an XML text with its DTD is parsed to a tree, and the tree is validated whole; a DTD's text is parsed alone.
 
 use std::ffi::c_void;
 use std::os::raw::{c_char, c_int};
@@ -10,6 +10,9 @@ extern "C" {
     fn xmlSetStructuredErrorFunc(context: *mut c_void, handler: Option<extern "C" fn(*mut c_void, *mut c_void)>);
     fn xmlReadMemory(text: *const c_char, size: c_int, url: *const c_char, encoding: *const c_char, options: c_int) -> *mut c_void;
     fn xmlFreeDoc(document: *mut c_void);
+    fn xmlParserInputBufferCreateMem(text: *const c_char, size: c_int, encoding: c_int) -> *mut c_void;
+    fn xmlIOParseDTD(handler: *mut c_void, input: *mut c_void, encoding: c_int) -> *mut c_void;
+    fn xmlFreeDtd(dtd: *mut c_void);
     fn xmlNewValidCtxt() -> *mut c_void;
     fn xmlFreeValidCtxt(context: *mut c_void);
     fn xmlValidateDocument(context: *mut c_void, document: *mut c_void) -> c_int;
@@ -58,6 +61,20 @@ impl Drop for Tree {
             xmlFreeDoc(self.document);
         }
     }
+}
+
+/// Parses a DTD's text and frees what it declares. True if it is taken.
+pub fn import(text: &[u8]) -> bool {
+    const UTF_8: c_int = 1;
+    unsafe {
+        let input = xmlParserInputBufferCreateMem(text.as_ptr().cast(), text.len() as c_int, UTF_8);
+        let dtd = xmlIOParseDTD(ptr::null_mut(), input, UTF_8);
+        if dtd.is_null() {
+            return false;
+        }
+        xmlFreeDtd(dtd);
+    }
+    true
 }
 
 /// Parses the text with its DTD, validates as it goes, and frees the tree. True if the text is valid.

@@ -13,6 +13,7 @@ mod timing;
 use bench::calls::{Calls, Edit};
 use bench::documents::{self, Mix, MIXES, SPOTS};
 use bench::plain::{Keys, Plain, WORDS};
+use bench::texts;
 use bench::xml;
 use cases::Input;
 use report::{grouped, Report, Row, Section, SIZES};
@@ -199,6 +200,7 @@ fn cases_of_files() -> Vec<Case> {
     let dense = Input::Check { table: Rc::new(table_of(&documents::dense_schema())), buffer: vec![0; 2], used: 0, number: 4, text: None };
     cases.push(Case::new(Section::File, "schema at the limits", "test of the table alone", 0, dense));
     cases.extend(comparisons());
+    cases.extend(imports());
     let mix = Mix::FewIds;
     for size in SIZES {
         let tokens = mix.document(size);
@@ -221,6 +223,14 @@ fn cases_of_files() -> Vec<Case> {
         }
     }
     cases
+}
+
+/// A DTD at the limits of elements and attributes in about 8 KB, and hostile texts of 65,536 bytes.
+fn imports() -> Vec<Case> {
+    let import = |(name, text, number, taken): (&'static str, Vec<u8>, u32, bool)| {
+        Case::new(Section::File, name, "import", 0, Input::Import { text, number, taken })
+    };
+    texts::all().into_iter().map(import).collect()
 }
 
 /// Two cycles of 64 and 63 occurrences meet in 4,033 pairs. The new one may end everywhere, or everywhere but where both come round.
@@ -274,7 +284,7 @@ fn method(plan: &Plan, report: &Report, inputs: usize, by_chance: u64) -> String
     }
     text += &format!(
         "\n## How it was measured\n\n\
-         - Core: the archive's six calls through C. Plain: a straightforward safe Rust version of the same calls with the same promises \
+         - Core: the archive's nine calls through C. Plain: a straightforward safe Rust version of the same calls with the same promises \
          (`bench/src/plain`), IDs compared in pairs; the second one marks them in a field of 65,536 bits and is the same otherwise. \
          Both are compiled with optimisation 3; the archive is not optimised across its border.\n\
          - Before timing, core and both plain versions gave the same answers and left the same memory on all {} inputs and on {} calls \

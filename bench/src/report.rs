@@ -111,7 +111,15 @@ impl Report<'_> {
         limit(text, &format!("an edit costs at most {} whole checks of the same document", MOST_CHECKS), MOST_CHECKS, edits);
         let calls = |plain| self.limited().map(move |row| (row.ratio(Who::Core, plain), row));
         limit(text, &format!("every call within {} × plain, both comparing IDs in pairs", MOST_PLAIN), MOST_PLAIN, calls(Who::Plain));
-        limit(text, &format!("for comparison: every call within {} × plain with a bit field, where the core compares IDs in pairs, as it is ordered to", MOST_PLAIN), MOST_PLAIN, calls(Who::Field));
+        limit(
+            text,
+            &format!(
+                "for comparison: every call within {} × plain with a bit field, where the core compares IDs in pairs, as it is ordered to",
+                MOST_PLAIN
+            ),
+            MOST_PLAIN,
+            calls(Who::Field),
+        );
         text.push('\n');
     }
 

@@ -1,7 +1,7 @@
 //! The core, through its C interface.
 
 use ::shrikemuff::raw;
-use bench::calls::{Answer, Calls, Compared, Count, Verdict};
+use bench::calls::{Answer, Calls, Compared, Count, Spot, Verdict};
 
 pub struct Core;
 
@@ -18,6 +18,21 @@ impl Calls for Core {
     fn write(&self, tokens: &[u32], file: &mut [u8]) -> Count {
         let said = unsafe { raw::shrike_write(tokens.as_ptr(), tokens.len(), file.as_mut_ptr(), file.len()) };
         Count { number: said.number, count: said.count }
+    }
+
+    fn import(&self, text: &[u8], file: &mut [u8]) -> Count {
+        let said = unsafe { raw::shrike_import(text.as_ptr(), text.len(), file.as_mut_ptr(), file.len()) };
+        Count { number: said.number, count: said.count }
+    }
+
+    fn names(&self, text: &[u8], names: &mut [u8]) -> Count {
+        let said = unsafe { raw::shrike_names(text.as_ptr(), text.len(), names.as_mut_ptr(), names.len()) };
+        Count { number: said.number, count: said.count }
+    }
+
+    fn import_spot(&self, text: &[u8]) -> Spot {
+        let said = unsafe { raw::shrike_import_spot(text.as_ptr(), text.len()) };
+        Spot { number: said.number, offset: said.offset }
     }
 
     fn translate(&self, file: &[u8], table: &mut [u64]) -> u32 {

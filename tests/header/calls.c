@@ -8,6 +8,9 @@
 HOLDS(count_is_8, sizeof(shrike_count) == 8);
 HOLDS(count_number_at_0, offsetof(shrike_count, number) == 0);
 HOLDS(count_count_at_4, offsetof(shrike_count, count) == 4);
+HOLDS(spot_is_16, sizeof(shrike_spot) == 16);
+HOLDS(spot_number_at_0, offsetof(shrike_spot, number) == 0);
+HOLDS(spot_offset_at_8, offsetof(shrike_spot, offset) == 8);
 HOLDS(verdict_is_8, sizeof(shrike_verdict) == 8);
 HOLDS(verdict_number_at_0, offsetof(shrike_verdict, number) == 0);
 HOLDS(verdict_place_at_4, offsetof(shrike_verdict, place) == 4);
@@ -24,6 +27,9 @@ HOLDS(lengths_have_64_bits, sizeof(size_t) == 8);
 
 static shrike_count (*const read_file)(const uint8_t *, size_t, uint32_t *, size_t) = shrike_read;
 static shrike_count (*const write_file)(const uint32_t *, size_t, uint8_t *, size_t) = shrike_write;
+static shrike_count (*const import)(const uint8_t *, size_t, uint8_t *, size_t) = shrike_import;
+static shrike_count (*const list_names)(const uint8_t *, size_t, uint8_t *, size_t) = shrike_names;
+static shrike_spot (*const import_spot)(const uint8_t *, size_t) = shrike_import_spot;
 static uint32_t (*const translate)(const uint8_t *, size_t, uint64_t *, size_t) = shrike_translate;
 static shrike_verdict (*const check)(const uint64_t *, size_t, const uint32_t *, size_t, uint64_t) = shrike_check;
 static shrike_answer (*const edit)(const uint64_t *, size_t, uint32_t *, size_t, uint64_t, uint32_t, uint64_t, const uint32_t *,
@@ -98,6 +104,81 @@ static void writers(void) {
     COUNTED(write_file(many, 8193, got, sizeof got), 5, 0);
     COUNTED(write_file(NULL, 0, NULL, 0), 0, 0);
     BYTES(got, due, sizeof got);
+}
+
+/* ---- DTD texts: the small shade, and texts that are refused */
+
+static const char dtd[] = "<!ELEMENT shade (panel+,use*)><!-- a shade -->\n<!ATTLIST shade title CDATA #REQUIRED>\n"
+                          "<!ELEMENT panel (row*)>\t<!ATTLIST panel id ID #REQUIRED><!ELEMENT row (#PCDATA)>\n"
+                          "<!ELEMENT use EMPTY><!ATTLIST use of IDREF #REQUIRED>";
+static const char name_list[] = "shade\npanel\nrow\nuse\ntitle\nid\nof\n";
+enum { DTD = sizeof dtd - 1, LIST = sizeof name_list - 1 };
+
+static const uint8_t *text_of(const char *text) { return (const uint8_t *)text; }
+
+/* A text that is refused, by all three calls, with room or without. */
+static void refused_text(int line, const char *text, uint32_t number, uint64_t offset) {
+    uint8_t got[PLACES], due[PLACES];
+    size_t n = strlen(text);
+    memset(got, 99, sizeof got);
+    memset(due, 99, sizeof due);
+    counted(line, import(text_of(text), n, got, sizeof got), number, 0);
+    counted(line, list_names(text_of(text), n, got, sizeof got), number, 0);
+    counted(line, import(text_of(text), n, NULL, 0), number, 0);
+    counted(line, list_names(text_of(text), n, NULL, 0), number, 0);
+    spotted(line, import_spot(text_of(text), n), number, offset);
+    bytes_same(line, got, due, sizeof got);
+}
+#define REFUSED_TEXT(text, number, offset) refused_text(__LINE__, text, number, offset)
+
+static void importers(void) {
+    uint8_t got[PLACES], due[PLACES];
+    /* done: the file and the list, and what was behind them */
+    memset(got, 99, sizeof got);
+    memset(due, 99, sizeof due);
+    memcpy(due, schema, SCHEMA);
+    COUNTED(import(text_of(dtd), DTD, got, SCHEMA), 0, SCHEMA);
+    BYTES(got, due, sizeof got);
+    memset(got, 99, sizeof got);
+    memset(due, 99, sizeof due);
+    memcpy(due, name_list, LIST);
+    COUNTED(list_names(text_of(dtd), DTD, got, LIST), 0, LIST);
+    BYTES(got, due, sizeof got);
+    SPOTTED(import_spot(text_of(dtd), DTD), 0, 0);
+    /* no room: nothing is written */
+    memset(got, 99, sizeof got);
+    memset(due, 99, sizeof due);
+    COUNTED(import(text_of(dtd), DTD, got, SCHEMA - 1), 5, 0);
+    COUNTED(list_names(text_of(dtd), DTD, got, LIST - 1), 5, 0);
+    COUNTED(import(text_of(dtd), DTD, NULL, 0), 5, 0);
+    COUNTED(list_names(text_of(dtd), DTD, NULL, 0), 5, 0);
+    BYTES(got, due, sizeof got);
+    /* nothing is no text */
+    COUNTED(import(NULL, 0, NULL, 0), 14, 0);
+    COUNTED(list_names(NULL, 0, NULL, 0), 14, 0);
+    SPOTTED(import_spot(NULL, 0), 14, 0);
+    /* every length short of the whole: without its last declaration it is taken, else refused as it stops too early */
+    const size_t last = DTD - strlen("<!ATTLIST use of IDREF #REQUIRED>");
+    for (size_t n = 0; n < DTD; n++) {
+        shrike_spot spot = import_spot(text_of(dtd), n);
+        SAME("number of a text cut short", spot.number, n == last ? 0 : 14);
+        SAME("offset of a text cut short", spot.offset <= n, 1);
+    }
+    REFUSED_TEXT("<!ELEMENT a ANY>", 14, 12);
+    REFUSED_TEXT("<!ELEMENT a (#PCDATA)*>", 14, 21);
+    REFUSED_TEXT("<!ELEMENT a (b) *><!ELEMENT b EMPTY>", 14, 16);
+    REFUSED_TEXT("<!ELEMENT a (b,c|b)><!ELEMENT b EMPTY>", 14, 16);
+    REFUSED_TEXT("<!ELEMENT a EMPTY><!ELEMENT a EMPTY>", 14, 28);
+    REFUSED_TEXT("<!ELEMENT a EMPTY><!ATTLIST a i CDATA #IMPLIED i", 14, 47);
+    REFUSED_TEXT("<!ELEMENT a EMPTY><!ATTLIST a i CDATA #IMPLIED i2", 14, 49);
+    REFUSED_TEXT("<!ELEMENT a EMPTY><!ATTLIST a i CDATA #IMPLIED i ", 14, 47);
+    REFUSED_TEXT("<!ELEMENT a EMPTY><!ATTLIST a i IDX #IMPLIED>", 14, 34);
+    REFUSED_TEXT("<!ELEMENT a EMPTY><!ATTLIST a i ID #FIXED 'x'>", 14, 36);
+    REFUSED_TEXT("<!ELEMENT a (b)><!ATTLIST c><!ELEMENT a2 EMPTY>", 14, 13);
+    REFUSED_TEXT("<!ATTLIST c>", 14, 12);
+    REFUSED_TEXT("<!-- -- --><!ELEMENT a EMPTY>", 14, 7);
+    REFUSED_TEXT("<!ELEMENT a EMPTY><!ATTLIST a i ID #IMPLIED j ID #REQUIRED>", 2, 46);
+    REFUSED_TEXT("<!ELEMENT a EMPTY><!ATTLIST a i ID #IMPLIED><!ATTLIST a j ID !", 2, 58);
 }
 
 static void translators(void) {
@@ -231,6 +312,13 @@ static int lengths(void) {
     COUNTED(write_file(shade, SHADE, bytes, OVER), 0, FILE_LENGTH);
     BYTES(bytes, file, FILE_LENGTH);
     COUNTED(write_file(tokens, OVER + 1, bytes, OVER), 5, 0);
+    COUNTED(import(text_of(dtd), DTD, bytes, OVER), 0, SCHEMA);
+    BYTES(bytes, schema, SCHEMA);
+    COUNTED(list_names(text_of(dtd), DTD, bytes, OVER), 0, LIST);
+    BYTES(bytes, name_list, LIST);
+    COUNTED(import(bytes, OVER, bytes + LIST, 0), 14, 0);
+    COUNTED(list_names(bytes, OVER, bytes + LIST, 0), 14, 0);
+    SPOTTED(import_spot(bytes, OVER), 14, 0);
     SAME("number", translate(schema, SCHEMA, (uint64_t *)words, OVER + TABLE), 13);
     JUDGED(check(table, TABLE, tokens, OVER, SHADE), 0, 0);
     JUDGED(check(words, OVER + TABLE, tokens, OVER, SHADE), 13, 0);
@@ -249,6 +337,7 @@ static int lengths(void) {
 int main(void) {
     readers();
     writers();
+    importers();
     translators();
     checks();
     edits();

@@ -12,6 +12,7 @@ int printf(const char *form, ...);
 void perror(const char *what);
 int memcmp(const void *a, const void *b, size_t n);
 int strcmp(const char *a, const char *b);
+size_t strlen(const char *s);
 void *memcpy(void *to, const void *from, size_t n);
 void *memset(void *to, int byte, size_t n);
 void *mmap(void *address, size_t length, int protection, int flags, int file, long offset);
@@ -41,6 +42,11 @@ static inline void counted(int line, shrike_count r, uint32_t number, uint32_t c
     same(line, "count", r.count, count);
 }
 
+static inline void spotted(int line, shrike_spot r, uint32_t number, uint64_t offset) {
+    same(line, "number", r.number, number);
+    same(line, "offset", r.offset, offset);
+}
+
 static inline void judged(int line, shrike_verdict r, uint32_t number, uint32_t place) {
     same(line, "number", r.number, number);
     same(line, "place", r.place, place);
@@ -60,6 +66,7 @@ static inline void compared_as(int line, shrike_compared r, uint32_t number, uin
 }
 
 #define COUNTED(call, number, count) counted(__LINE__, call, number, count)
+#define SPOTTED(call, number, offset) spotted(__LINE__, call, number, offset)
 #define JUDGED(call, number, place) judged(__LINE__, call, number, place)
 #define ANSWERED(call, number, place, used, change) answered(__LINE__, call, number, place, used, change)
 #define COMPARED(call, number, takes_all, length) compared_as(__LINE__, call, number, takes_all, length)

@@ -52,8 +52,8 @@ static void versions(void) {
 static void words(void) {
     static const uint32_t answers[] = {SHRIKE_DONE,  SHRIKE_BROKEN,     SHRIKE_SCHEMA,  SHRIKE_AMBIGUOUS, SHRIKE_SHAPE,
                                        SHRIKE_ROOM,  SHRIKE_PLACE,      SHRIKE_NAME,    SHRIKE_ATTRIBUTES, SHRIKE_CONTENT,
-                                       SHRIKE_ROOT,  SHRIKE_ID_TWICE,   SHRIKE_NO_ID,   SHRIKE_TABLE,     SHRIKE_NOT_COMPARED,
-                                       UINT32_MAX};
+                                       SHRIKE_ROOT,  SHRIKE_ID_TWICE,   SHRIKE_NO_ID,   SHRIKE_TABLE,     SHRIKE_DTD_TEXT,
+                                       SHRIKE_NOT_COMPARED, UINT32_MAX};
     for (size_t i = 0; i < LENGTH(answers); i++)
         for (size_t j = 0; j < i; j++) SAME("words alike", strcmp(shrike_words(answers[i]), shrike_words(answers[j])) == 0, 0);
 }
@@ -278,6 +278,55 @@ static void answers(void) {
     SCHEMA(SHRIKE_AMBIGUOUS, 1, 0, SHRIKE_MODEL, 4, SHRIKE_SEQUENCE, SHRIKE_OPTIONAL, NAME(0), NAME(0), 0);
 }
 
+/* ---- DTD texts */
+
+static char text[1 << 18];
+static size_t written;
+
+static void say(const char *words) {
+    for (size_t i = 0; words[i] != 0 && written < sizeof text; i++) text[written++] = words[i];
+}
+
+/* A letter and two digits: a name for a number below 100. */
+static void say_name(const char *letter, uint32_t number) {
+    const char digits[] = {(char)('0' + number / 10 % 10), (char)('0' + number % 10), 0};
+    say(letter), say(digits);
+}
+
+/* Elements, each of a model of many symbols: the first element, optional, in brackets that are optional; and with attributes, the same for
+ * all. */
+static void say_elements(uint32_t elements, uint32_t symbols, uint32_t attributes) {
+    for (uint32_t e = 0; e < elements; e++) {
+        say("<!ELEMENT "), say_name("e", e), say(" (");
+        for (uint32_t i = 2; i < symbols; i++) say("(");
+        say("e00");
+        for (uint32_t i = 1; i < symbols; i++) say(i == 1 ? "?" : ")?");
+        say(")><!ATTLIST "), say_name("e", e);
+        for (uint32_t a = 0; a < attributes; a++) say_name(" a", a), say(" CDATA #IMPLIED");
+        say(">");
+    }
+}
+
+static shrike_count imported(size_t room) { return shrike_import((const uint8_t *)text, written, file, room); }
+
+static uint32_t with_text(uint32_t elements, uint32_t symbols, uint32_t attributes) {
+    written = 0, say_elements(elements, symbols, attributes);
+    return imported(sizeof file).number;
+}
+
+static void texts(void) {
+    SAME("one element more in a text", with_text(SHRIKE_MOST_ELEMENTS + 1, 1, 0), SHRIKE_SCHEMA);
+    SAME("one symbol more in a text", with_text(1, SHRIKE_MOST_SYMBOLS + 1, 0), SHRIKE_SCHEMA);
+    SAME("one attribute more in a text", with_text(1, 1, SHRIKE_MOST_ATTRIBUTES + 1), SHRIKE_SCHEMA);
+    SAME("an element that is not declared", with_text(0, 1, 0), SHRIKE_DTD_TEXT);
+    SAME("the largest text", with_text(SHRIKE_MOST_ELEMENTS, SHRIKE_MOST_SYMBOLS, SHRIKE_MOST_ATTRIBUTES), SHRIKE_DONE);
+    COUNTED(imported(SHRIKE_MOST_SCHEMA_FILE), SHRIKE_DONE, SHRIKE_MOST_SCHEMA_FILE);
+    COUNTED(imported(SHRIKE_MOST_SCHEMA_FILE - 1), SHRIKE_ROOM, 0);
+    SAME("its table", shrike_translate(file, SHRIKE_MOST_SCHEMA_FILE, table, SHRIKE_TABLE_WORDS), SHRIKE_DONE);
+    say("?");
+    SPOTTED(shrike_import_spot((const uint8_t *)text, written), SHRIKE_DTD_TEXT, written - 1);
+}
+
 /* An element compared with itself: an empty one, by the last table. */
 static shrike_compared compared_with_itself(uint32_t element, size_t room) {
     static uint32_t sequence[2 * SHRIKE_SEQUENCE_PLACES];
@@ -303,6 +352,7 @@ int main(void) {
     tables();
     operations();
     answers();
+    texts();
     comparisons();
     return told();
 }

@@ -25,6 +25,21 @@ shrike_count shrike_write(const uint32_t *tokens, size_t n, uint8_t *file, size_
     return (void)tokens, (void)n, (void)file, (void)room, r;
 }
 
+shrike_count shrike_import(const uint8_t *text, size_t n, uint8_t *file, size_t room) {
+    shrike_count r = {answer("import"), 0};
+    return (void)text, (void)n, (void)file, (void)room, r;
+}
+
+shrike_count shrike_names(const uint8_t *text, size_t n, uint8_t *names, size_t room) {
+    shrike_count r = {answer("names"), 0};
+    return (void)text, (void)n, (void)names, (void)room, r;
+}
+
+shrike_spot shrike_import_spot(const uint8_t *text, size_t n) {
+    shrike_spot r = {answer("import_spot"), 0};
+    return (void)text, (void)n, r;
+}
+
 uint32_t shrike_translate(const uint8_t *file, size_t file_len, uint64_t *table, size_t words) {
     return (void)file, (void)file_len, (void)table, (void)words, answer("translate");
 }

@@ -1,7 +1,7 @@
 /* How much stack each call takes: it runs in a thread on a stack of our own that holds a pattern, and the lowest place that lost the
  * pattern tells. Prints a line for each call: its name and the bytes. The inputs reach the deepest frames: a model nested as deep as 255
- * symbols allow, a document of 8,192 tokens and 64 deep, an edit that is done at its end, a comparison that finds
- * something lost. POSIX threads. */
+ * symbols allow, a DTD's text with every form and such a model, a document of 8,192 tokens and 64 deep, an edit that is done at its end, a
+ * comparison that finds something lost. POSIX threads. */
 #define _GNU_SOURCE
 #include "shrikemuff.h"
 
@@ -32,6 +32,47 @@ static void *reads(void *answer) {
 static void *writes(void *answer) {
     static uint8_t bytes[3 * SHRIKE_MOST_TOKENS];
     shrike_count r = shrike_write(doc, used, bytes, sizeof bytes);
+    *(uint32_t *)answer = r.number;
+    return answer;
+}
+
+/* A DTD's text of two elements: comments in every length of a Char, all kinds and statuses, a model of 255 symbols, 64 attributes. */
+static char text[8192];
+
+static void say(const char *words) {
+    strcat(text, words);
+}
+
+static void say_text(void) {
+    char name[40];
+    say("<!-- a \xc3\xa9 \xe2\x82\xac \xf0\x9d\x84\x9e - comment -->\n<!ELEMENT b (#PCDATA)>\n<!ELEMENT a ");
+    for (int i = 0; i < 251; i++) say("( ");
+    say("(b | a)*");
+    for (int i = 0; i < 251; i++) say(" )?");
+    say(" >\n<!ATTLIST a i ID #REQUIRED j IDREF #IMPLIED k IDREFS #IMPLIED>\n<!ATTLIST b");
+    for (int i = 0; i < 61; i++) {
+        snprintf(name, sizeof name, " x%d CDATA #IMPLIED", i);
+        say(name);
+    }
+    say(">\n");
+}
+
+static void *imports(void *answer) {
+    static uint8_t made[SHRIKE_MOST_SCHEMA_FILE];
+    shrike_count r = shrike_import((const uint8_t *)text, strlen(text), made, sizeof made);
+    *(uint32_t *)answer = r.number;
+    return answer;
+}
+
+static void *lists(void *answer) {
+    static uint8_t names[sizeof text];
+    shrike_count r = shrike_names((const uint8_t *)text, strlen(text), names, sizeof names);
+    *(uint32_t *)answer = r.number;
+    return answer;
+}
+
+static void *spots(void *answer) {
+    shrike_spot r = shrike_import_spot((const uint8_t *)text, strlen(text));
     *(uint32_t *)answer = r.number;
     return answer;
 }
@@ -112,9 +153,13 @@ int main(void) {
     doc[used++] = 2;
     for (i = 0; i < sizeof file; i++) file[i] = i % 3 == 2 ? 1 : 128;
     if (shrike_translate(empty, sizeof empty, empty_table, SHRIKE_TABLE_WORDS) != 0) abort();
+    say_text();
     thread_alone = taken(nothing, &answer);
     told("shrike_read", reads);
     told("shrike_write", writes);
+    told("shrike_import", imports);
+    told("shrike_names", lists);
+    told("shrike_import_spot", spots);
     told("shrike_translate", translates);
     told("shrike_check", checks);
     told("shrike_edit", edits);

@@ -1,4 +1,4 @@
-//! The straightforward version: the six calls in safe Rust, as one writes them without proofs.
+//! The straightforward version: the nine calls in safe Rust, as one writes them without proofs.
 //!
 //! It promises what the core promises. It trusts no caller: table and shape are tested at each call. It judges in the paper's
 //! order. A refusal leaves lent memory as it was.
@@ -6,6 +6,7 @@
 //! There are two of it, which differ in one thing: how an ID met twice is found (`Keys`).
 
 mod compare;
+mod dtd;
 mod edits;
 mod judge;
 mod keys;
@@ -15,7 +16,7 @@ mod schema;
 mod shape;
 mod table;
 
-use crate::calls::{Answer, Calls, Compared, Count, Verdict};
+use crate::calls::{Answer, Calls, Compared, Count, Spot, Verdict};
 pub use compare::PLACES;
 pub use keys::Keys;
 pub use table::WORDS;
@@ -48,6 +49,21 @@ impl Calls for Plain {
     }
 
     #[inline(never)]
+    fn import(&self, text: &[u8], file: &mut [u8]) -> Count {
+        put(dtd::read(text).map(|declared| declared.file()), file)
+    }
+
+    #[inline(never)]
+    fn names(&self, text: &[u8], names: &mut [u8]) -> Count {
+        put(dtd::read(text).map(|declared| declared.names()), names)
+    }
+
+    #[inline(never)]
+    fn import_spot(&self, text: &[u8]) -> Spot {
+        dtd::read(text).err().unwrap_or(Spot { number: 0, offset: 0 })
+    }
+
+    #[inline(never)]
     fn translate(&self, file: &[u8], table: &mut [u64]) -> u32 {
         match schema::translate(file, table) {
             Ok(()) => 0,
@@ -77,6 +93,18 @@ impl Calls for Plain {
             Ok(None) => Compared { number: 0, takes_all: 1, length: 0 },
             Ok(Some(length)) => Compared { number: 0, takes_all: 0, length: length as u32 },
             Err(number) => Compared { number, takes_all: 0, length: 0 },
+        }
+    }
+}
+
+/// What was made of a text goes into the first bytes, if there is room.
+fn put(made: Result<Vec<u8>, Spot>, bytes: &mut [u8]) -> Count {
+    match made {
+        Err(Spot { number, .. }) => Count { number, count: 0 },
+        Ok(made) if made.len() > bytes.len() || made.len() > u32::MAX as usize => Count { number: 5, count: 0 },
+        Ok(made) => {
+            bytes[..made.len()].copy_from_slice(&made);
+            Count { number: 0, count: made.len() as u32 }
         }
     }
 }

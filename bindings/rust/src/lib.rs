@@ -1,6 +1,6 @@
 //! Small XML documents, held as tokens, kept to their schema: a safe binding of `libshrikemuff.a`.
 //!
-//! The numbers of a file, the tokens, the order of faults and the sizes are described in `include/shrikemuff.h`. No call allocates (a
+//! The numbers of a file, the texts of a DTD, the tokens, the order of faults and the sizes are described in `include/shrikemuff.h`. No call allocates (a
 //! [`Table`] is a box that this binding makes), none keeps state, and a refused call leaves what it was lent as it was. A call takes
 //! less than 133,000 bytes of the stack.
 //!
@@ -30,6 +30,7 @@
 
 use std::fmt;
 
+mod dtd;
 mod refusal;
 
 #[allow(missing_docs)]
@@ -38,7 +39,8 @@ pub mod numbers;
 pub mod raw;
 pub mod token;
 
-pub use numbers::{MOST_BYTES, MOST_TOKENS, SEQUENCE_PLACES, TABLE_WORDS, VERSION};
+pub use dtd::{import, import_spot, names, Spot};
+pub use numbers::{MOST_BYTES, MOST_SCHEMA_FILE, MOST_TOKENS, SEQUENCE_PLACES, TABLE_WORDS, VERSION};
 pub use refusal::{Fault, Refusal};
 
 #[cfg(not(target_pointer_width = "64"))]

@@ -16,6 +16,7 @@ pub const MOST_ELEMENTS: usize = 48;
 pub const MOST_SYMBOLS: usize = 255;
 pub const MOST_NAMES: usize = 64;
 pub const MOST_ATTRIBUTES: usize = 64;
+pub const MOST_SCHEMA_FILE: usize = 21_650;
 
 // Sorts of tokens.
 pub const START: u32 = 1;
@@ -83,6 +84,7 @@ pub const ROOT: u32 = 10;
 pub const ID_TWICE: u32 = 11;
 pub const NO_ID: u32 = 12;
 pub const TABLE: u32 = 13;
+pub const DTD_TEXT: u32 = 14;
 pub const NOT_COMPARED: u32 = 16;
 
 // Operations.

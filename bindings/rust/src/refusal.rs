@@ -32,6 +32,8 @@ pub enum Refusal {
     NoId,
     /// table
     Table,
+    /// DTD text
+    DtdText,
     /// kind not compared
     NotCompared,
     /// an answer that this binding does not know, of a newer library
@@ -56,6 +58,7 @@ impl Refusal {
         Refusal::IdTwice,
         Refusal::NoId,
         Refusal::Table,
+        Refusal::DtdText,
         Refusal::NotCompared,
     ];
 
@@ -75,6 +78,7 @@ impl Refusal {
             Refusal::IdTwice => numbers::ID_TWICE,
             Refusal::NoId => numbers::NO_ID,
             Refusal::Table => numbers::TABLE,
+            Refusal::DtdText => numbers::DTD_TEXT,
             Refusal::NotCompared => numbers::NOT_COMPARED,
             Refusal::Unknown(number) => number,
             Refusal::Version(_) => return None,
@@ -97,6 +101,7 @@ impl Refusal {
             Refusal::IdTwice => "ID twice",
             Refusal::NoId => "reference to none",
             Refusal::Table => "table",
+            Refusal::DtdText => "DTD text",
             Refusal::NotCompared => "kind not compared",
             Refusal::Unknown(_) => "unknown answer",
             Refusal::Version(_) => "library of another version",

@@ -1,5 +1,5 @@
 //! A library that is newer than the binding: `tests/hosts` runs this with tests/header/newer.c in the library's place.
-use shrikemuff::{compare, library_version, read, write, Edit, Refusal, Table, TABLE_WORDS, VERSION};
+use shrikemuff::{compare, import, import_spot, library_version, names, read, write, Edit, Refusal, Table, TABLE_WORDS, VERSION};
 use std::env::set_var;
 
 /// What each call is refused with, in the order of `CALLS`.
@@ -9,6 +9,9 @@ fn refusals() -> Vec<Option<Refusal>> {
     vec![
         read(&[], &mut doc).err(),
         write(&[], &mut []).err(),
+        import(&[], &mut []).err(),
+        names(&[], &mut []).err(),
+        import_spot(&[]).err().map(|spot| spot.refusal),
         Table::translate(&[]).err(),
         table.check(&doc, 0).err().map(|fault| fault.refusal),
         table.edit(&mut doc, 0, Edit::remove(1)).err().map(|fault| fault.refusal),
@@ -16,7 +19,7 @@ fn refusals() -> Vec<Option<Refusal>> {
     ]
 }
 
-const CALLS: [&str; 6] = ["read", "write", "translate", "check", "edit", "compare"];
+const CALLS: [&str; 9] = ["read", "write", "import", "names", "import_spot", "translate", "check", "edit", "compare"];
 
 #[test]
 #[ignore = "the library is not the newer one"]
@@ -24,13 +27,13 @@ fn newer() {
     for more in [1_000_000, 7_000_000] {
         set_var("NEWER_BY", more.to_string());
         assert_eq!(library_version(), VERSION + more);
-        assert_eq!(refusals(), [Some(Refusal::Version(VERSION + more)); 6]);
+        assert_eq!(refusals(), [Some(Refusal::Version(VERSION + more)); 9]);
     }
     for more in [0, 1, 1_000] {
         set_var("NEWER_BY", more.to_string());
         for (i, call) in CALLS.iter().enumerate() {
             set_var("NEW_IN", call);
-            let mut due = [None; 6];
+            let mut due = [None; 9];
             due[i] = Some(Refusal::Unknown(1_013));
             assert_eq!(refusals(), due);
         }

@@ -8,3 +8,4 @@ pub mod NeverSeven
 pub mod Check
 pub mod Edit
 pub mod Compare
+pub mod Import

@@ -11,7 +11,7 @@ use Rattle.paper.specs.Answers.{Answers, readerAnswers, writerAnswers}
 use Rattle.paper.specs.Calls.{Reads, Writes}
 
 -- a refusal's number is one of l
-abbrev Refuses : List ℕ → Result → Type 0
+abbrev pub Refuses : List ℕ → Result → Type 0
 Refuses l (refused k) = T (elem k l)
 Refuses l (made x) = Unit {0}
 
@@ -36,7 +36,7 @@ tokens-refuse (suc room) (b ∷ s) = go (front (b ∷ s)) (tokens-refuse room)
     go broken h = tt
     go (got n r) h = put-refuses ofReader n (tokensIn room r) (h r)
 
-counted-answers : (l : List ℕ) (r : Result) (buffer : List ℕ) (o : Counted) → Refuses l r → o ≡ counted r buffer → Answers (0 ∷ l) (o .number) 0
+pub counted-answers : (l : List ℕ) (r : Result) (buffer : List ℕ) (o : Counted) → Refuses l r → o ≡ counted r buffer → Answers (0 ∷ l) (o .number) 0
 counted-answers l (refused k) buffer o h e = let n : o .number ≡ k = cc in record { one-of = rw n (or-right (eqb k 0) (elem k l) h); no-place = λ c. refl }
   where
     or-right : (a b : Bool) → T b → T (a || b)

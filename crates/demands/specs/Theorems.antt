@@ -1,14 +1,17 @@
--- The demands, of any outcomes that the contracts of the library's six calls allow: those that a host links and runs. A line for each
+-- The demands, of any outcomes that the contracts of the library's nine calls allow: those that a host links and runs. A line for each
 -- promise. Assumes nothing.
 use Rattle.contracts.specs.{TakesAll, Allows}
 use Rattle.promises.specs.Calls.{Calls, Faithful}
 use Rattle.promises.specs.Statements as promised
+use Rattle.promises.specs.Dtd as dtd
 use Rattle.promises.specs.Inclusion as inclusion
 use Rattle.promises.specs.Theorems as proved
+use Rattle.promises.specs.DtdTheorems as texts
 use Rattle.shrikemuff.proofs.Contracts.{shrike-read, shrike-write, shrike-translate, shrike-check, shrike-edit, shrike-compare}
+use Rattle.shrikemuff.proofs.Contracts.{shrike-import, shrike-names, shrike-import-spot}
 use Rattle.shrikemuff.proofs.Contracts as contracts
 
--- the library's six calls, each by its own contract
+-- the library's nine calls, each by its own contract
 abbrev pub shrikes : Calls
 shrikes = record {
   Reads = λ file buffer. Allows shrike-read (file, buffer);
@@ -17,6 +20,9 @@ shrikes = record {
   Checks = λ table buffer used. Allows shrike-check (table, buffer, used);
   Performs = λ table buffer used q. Allows shrike-edit (table, buffer, used, q);
   Compares = λ old new e buffer. Allows shrike-compare (old, new, e, buffer);
+  Imports = λ text buffer. Allows shrike-import (text, buffer);
+  Names = λ text buffer. Allows shrike-names (text, buffer);
+  Spots = λ text. Allows shrike-import-spot text;
 }
 
 faithful : Faithful shrikes
@@ -27,6 +33,9 @@ faithful = record {
   checks = λ table buffer used. contracts.checks (table, buffer, used);
   performs = λ table buffer used q. contracts.performs (table, buffer, used, q);
   compares = λ old new e buffer. contracts.compares (old, new, e, buffer);
+  imports = λ text buffer. contracts.imports (text, buffer);
+  names = λ text buffer. contracts.lists (text, buffer);
+  spots = λ text. contracts.spots text;
 }
 
 -- ---- every call
@@ -49,8 +58,8 @@ edit-determinate = proved.edit-determinate shrikes faithful
 -- ---- demand 1
 
 -- "Every call takes every input"
-pub take-all : TakesAll shrike-read × TakesAll shrike-write × TakesAll shrike-translate × TakesAll shrike-check × TakesAll shrike-edit × TakesAll shrike-compare
-take-all = (contracts.read-takes-all, contracts.write-takes-all, contracts.translate-takes-all, contracts.check-takes-all, contracts.edit-takes-all, contracts.compare-takes-all)
+pub take-all : TakesAll shrike-read × TakesAll shrike-write × TakesAll shrike-translate × TakesAll shrike-check × TakesAll shrike-edit × TakesAll shrike-compare × TakesAll shrike-import × TakesAll shrike-names × TakesAll shrike-import-spot
+take-all = (contracts.read-takes-all, contracts.write-takes-all, contracts.translate-takes-all, contracts.check-takes-all, contracts.edit-takes-all, contracts.compare-takes-all, contracts.import-takes-all, contracts.names-takes-all, contracts.spot-takes-all)
 
 pub read-answers : promised.ReadAnswers shrikes
 read-answers = proved.read-answers shrikes faithful
@@ -136,6 +145,59 @@ table-reads = proved.table-reads shrikes faithful
 
 pub demand-3 : promised.Demand3 shrikes
 demand-3 = proved.demand-3 shrikes faithful
+
+-- ---- item 4
+
+pub import-determinate : dtd.ImportDeterminate shrikes
+import-determinate = texts.import-determinate shrikes faithful
+
+pub names-determinate : dtd.NamesDeterminate shrikes
+names-determinate = texts.names-determinate shrikes faithful
+
+pub spot-determinate : dtd.SpotDeterminate shrikes
+spot-determinate = texts.spot-determinate shrikes faithful
+
+pub import-answers : dtd.ImportAnswers shrikes
+import-answers = texts.import-answers shrikes faithful
+
+pub names-answers : dtd.NamesAnswers shrikes
+names-answers = texts.names-answers shrikes faithful
+
+pub spot-answers : dtd.SpotAnswers shrikes
+spot-answers = texts.spot-answers shrikes faithful
+
+pub import-keeps : dtd.ImportKeeps shrikes
+import-keeps = texts.import-keeps shrikes faithful
+
+pub names-keeps : dtd.NamesKeeps shrikes
+names-keeps = texts.names-keeps shrikes faithful
+
+pub import-turns : dtd.ImportTurns shrikes
+import-turns = texts.import-turns shrikes faithful
+
+pub names-turn : dtd.NamesTurn shrikes
+names-turn = texts.names-turn shrikes faithful
+
+pub spot-tells : dtd.SpotTells shrikes
+spot-tells = texts.spot-tells shrikes faithful
+
+pub spot-agrees : dtd.SpotAgrees shrikes
+spot-agrees = texts.spot-agrees shrikes faithful
+
+pub fault-stays : dtd.FaultStays shrikes
+fault-stays = texts.fault-stays shrikes faithful
+
+pub import-then-translate : dtd.ImportThenTranslate shrikes
+import-then-translate = texts.import-then-translate shrikes faithful
+
+pub imported-is-translated : dtd.ImportedIsTranslated shrikes
+imported-is-translated = texts.imported-is-translated shrikes faithful
+
+pub check-by-text : dtd.CheckByText shrikes
+check-by-text = texts.check-by-text shrikes faithful
+
+pub demand-3-by-text : dtd.Demand3ByText shrikes
+demand-3-by-text = texts.demand-3-by-text shrikes faithful
 
 -- ---- item 12
 

@@ -1,4 +1,5 @@
 -- Bytes in a buffer from a place on
 pub mod Put
+pub mod Putting
 -- The bytes of lines
 pub mod Lines

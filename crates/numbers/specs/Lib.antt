@@ -4,3 +4,5 @@ pub mod At
 pub mod Store
 -- What is read was written so, and what was written is read back
 pub mod Laws
+-- Files of numbers that are one byte each
+pub mod Small

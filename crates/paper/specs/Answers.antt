@@ -4,7 +4,8 @@
 --  1 broken number             6 operation or place         11 ID twice
 --  2 schema value, form, limit 7 name                       12 reference to none
 --  3 ambiguous model           8 attributes                 13 table
---  4 no shape, or bad piece    9 content                    16 kind not compared
+--  4 no shape, or bad piece    9 content                    14 DTD text
+--                                                           16 kind not compared
 use mathlib.Core.List.{List, [], _∷_}
 use Prim.Native.Nat.{ℕ}
 use lib.Dec.{T}
@@ -31,6 +32,18 @@ editAnswers = 0 ∷ 4 ∷ 5 ∷ 6 ∷ 7 ∷ 8 ∷ 9 ∷ 10 ∷ 11 ∷ 12 ∷ 13 
 -- Item 12: "Refusals in order: 13, old table first; element not below both E is 6; new 16, [..]; buffer too short is 5."
 abbrev pub compareAnswers : List ℕ
 compareAnswers = 0 ∷ 5 ∷ 6 ∷ 13 ∷ 16 ∷ []
+
+-- Item 4: "new 14, the text is outside this subset, [..]; 2 for document 01's limits [..]; last, 5 for no room"
+abbrev pub importAnswers : List ℕ
+importAnswers = 0 ∷ 2 ∷ 5 ∷ 14 ∷ []
+
+-- "Its only refusals are the importer's"
+abbrev pub namesAnswers : List ℕ
+namesAnswers = importAnswers
+
+-- it is lent no buffer
+abbrev pub spotAnswers : List ℕ
+spotAnswers = 0 ∷ 2 ∷ 14 ∷ []
 
 -- an answer is one of those numbers; "The place is 0 except for 7 to 12."
 pub record Answers (numbers : List ℕ) (number place : ℕ) : Type 0 where

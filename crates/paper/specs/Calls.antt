@@ -1,4 +1,4 @@
--- The six calls, each by the outcome that it has for what it is given: an outcome is the answer and every place of lent memory
+-- The nine calls, each by the outcome that it has for what it is given: an outcome is the answer and every place of lent memory
 -- after the call. The contracts of the calls are written with these names. Assumes nothing.
 use mathlib.Core.Path.{_≡_}
 use mathlib.Core.List.{List}
@@ -8,6 +8,7 @@ use Rattle.paper.specs.Table.{translate}
 use Rattle.paper.specs.Judgement.{Answer, check}
 use Rattle.paper.specs.Edits.{Request, Outcome, edit}
 use Rattle.paper.specs.Inclusion.{Compared, compare}
+use Rattle.paper.specs.Dtd.Imported.{Spot, import, names, spot}
 
 -- the reader: number, count, and the token buffer
 abbrev pub Reads : (file buffer : List ℕ) → Counted → Type 0
@@ -32,3 +33,15 @@ Performs table buffer used q o = o ≡ edit table buffer used q
 -- the comparison: number, 1 for yes, length of the sequence that is lost, and the sequence buffer
 abbrev pub Compares : (old new : List ℕ) → (element : ℕ) → (buffer : List ℕ) → Compared → Type 0
 Compares old new element buffer o = o ≡ compare old new element buffer
+
+-- the importer: number, count, and the schema file's buffer
+abbrev pub Imports : (text buffer : List ℕ) → Counted → Type 0
+Imports text buffer o = o ≡ import text buffer
+
+-- the names of a text: number, count, and their buffer
+abbrev pub Names : (text buffer : List ℕ) → Counted → Type 0
+Names text buffer o = o ≡ names text buffer
+
+-- where a text is refused: number and offset; it is lent nothing to write to
+abbrev pub Spots : List ℕ → Spot → Type 0
+Spots text o = o ≡ spot text

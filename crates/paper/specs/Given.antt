@@ -11,7 +11,10 @@ use Rattle.paper.specs.Table.{tableLength, tableOf, translate}
 use Rattle.paper.specs.Judgement.{check}
 use Rattle.paper.specs.Edits.{Request, edit}
 use Rattle.paper.specs.Inclusion.{compare}
+use Rattle.paper.specs.Dtd.Letters.{ascii}
+use Rattle.paper.specs.Dtd.Imported.{import, names, spot}
 use Rattle.paper.specs.Answers.{readerAnswers, writerAnswers, translatorAnswers, checkAnswers, editAnswers, compareAnswers}
+use Rattle.paper.specs.Answers.{importAnswers, namesAnswers, spotAnswers}
 use Rattle.paper.specs.Open.{all-open}
 use Rattle.paper.specs.SmallShade.{shadeWith, shade, small}
 
@@ -102,3 +105,27 @@ comparisons =
 pub compare-gives : map (λ (i : List ℕ × List ℕ × ℕ × List ℕ). compare (i .0) (i .1) (i .2) (i .3) .number) comparisons ≡ compareAnswers
 unfolding all-open
 compare-gives = refl
+
+-- an element
+abbrev one : List ℕ
+one = ascii "<!ELEMENT a EMPTY>"
+
+-- an attribute of kind ID beside another
+abbrev twoIds : List ℕ
+twoIds = ascii "<!ATTLIST a x ID #IMPLIED y ID #IMPLIED>"
+
+-- text and buffer: an element; a second ID; an element, and no buffer; no element
+abbrev pub texts : List (List ℕ × List ℕ)
+texts = (one, 0 ∷ 0 ∷ 0 ∷ 0 ∷ []) ∷ (twoIds, []) ∷ (one, []) ∷ ([], []) ∷ []
+
+pub import-gives : map (λ (i : List ℕ × List ℕ). import (i .0) (i .1) .number) texts ≡ importAnswers
+unfolding all-open
+import-gives = refl
+
+pub names-gives : map (λ (i : List ℕ × List ℕ). names (i .0) (i .1) .number) texts ≡ namesAnswers
+unfolding all-open
+names-gives = refl
+
+pub spot-gives : map (λ text. spot text .number) (one ∷ twoIds ∷ [] ∷ []) ≡ spotAnswers
+unfolding all-open
+spot-gives = refl

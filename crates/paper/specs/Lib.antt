@@ -23,6 +23,8 @@ pub mod Validity
 -- "The five edits"
 pub mod Edits
 pub mod TreeEdits
+-- Item 4: DTD text
+pub mod Dtd
 -- Item 12: an element's content compared
 pub mod Inclusion
 -- "Answer numbers": which numbers a call gives, and what each call does

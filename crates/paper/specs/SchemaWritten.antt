@@ -3,7 +3,7 @@
 use mathlib.Core.Path.{_≡_}
 use mathlib.Core.Bool.{Bool, true, false, not, _&&_, _||_}
 use mathlib.Core.List.{List, [], _∷_, _++_, map}
-use Prim.Native.Nat.{ℕ, suc, _-_, _<_}
+use Prim.Native.Nat.{ℕ, suc, _+_, _-_, _*_, _<_}
 use lib.Dec.{leb, ltb, eqb}
 use lib.ListN.{length}
 use Rattle.paper.specs.Basics.{mostElements, mostNames, mostAttributes, between, all, concat}
@@ -30,6 +30,11 @@ elementWritten x = contentWritten (x .content) ++ (length (x .attributes) ∷ co
 -- "In order: the number of elements E [..]; the root [..]; then each element 0 to E−1"
 abbrev pub schemaWritten : Schema → List ℕ
 schemaWritten s = length (s .elements) ∷ s .root ∷ concat (map elementWritten (s .elements))
+
+-- the most bytes of its file: E and the root, and for each element its kind, a count of symbols in two bytes, the symbols, a count of
+-- attributes, and three bytes for each
+abbrev pub mostSchemaFile : ℕ
+mostSchemaFile = 2 + mostElements * (1 + 2 + mostSymbols + 1 + 3 * mostAttributes)
 
 -- ---- the limits
 

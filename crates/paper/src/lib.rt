@@ -33,6 +33,10 @@ pub const MOST_ATTRIBUTES: usize = 64;
 // "The sequence buffer has at least 4,290 places."
 pub const SEQUENCE_PLACES: usize = 4290;
 
+// A schema file has at most so many bytes: two, and for each element its kind, a count of symbols in two bytes, the symbols, a count of
+// attributes and three bytes for each.
+pub const MOST_SCHEMA_FILE: usize = 21650;
+
 // The table: its length, a block's length, where the first block begins, and where the parts of a block begin.
 pub const TABLE_WORDS: usize = 6626;
 
@@ -149,6 +153,8 @@ pub const ID_TWICE: u32 = 11;
 pub const NO_ID: u32 = 12;
 
 pub const TABLE: u32 = 13;
+
+pub const DTD_TEXT: u32 = 14;
 
 pub const NOT_COMPARED: u32 = 16;
 

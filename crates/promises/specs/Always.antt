@@ -18,8 +18,11 @@ use Rattle.paper.specs.Rules.{Rules, ofTable}
 use Rattle.paper.specs.Judgement.{Answer, judge}
 use Rattle.paper.specs.Edits.{Request, Outcome, Edited, refused as rejected, done, outcome, edited, touchedBy, formFault, answered, editing, editBy, written, edit}
 use Rattle.paper.specs.Tokens.{toks}
+use Rattle.paper.specs.Dtd.Numbering.{namesOf}
+use Rattle.paper.specs.Dtd.Imported.{declared, worded, schemaFile, import, names}
 use Rattle.promises.specs.Calls.{papers}
 use Rattle.promises.specs.Statements.{ReadDeterminate, WriteDeterminate, TranslateDeterminate, CheckDeterminate, EditDeterminate, ReadKeeps, WriteKeeps, TranslateKeeps, Kept, EditKeeps, Left, EditLeaves}
+use Rattle.promises.specs.Dtd.{ImportKeeps, NamesKeeps}
 
 -- ---- one outcome for one input
 
@@ -51,6 +54,14 @@ read-keeps file buffer o e n = counted-keeps (reading file buffer) buffer o e n
 pub write-keeps : WriteKeeps papers
 unfolding write
 write-keeps tokens buffer o e n = counted-keeps (writing tokens buffer) buffer o e n
+
+pub import-keeps : ImportKeeps papers
+unfolding import
+import-keeps text buffer o e n = counted-keeps (worded schemaFile (declared text) buffer) buffer o e n
+
+pub names-keeps : NamesKeeps papers
+unfolding names
+names-keeps text buffer o e n = counted-keeps (worded namesOf (declared text) buffer) buffer o e n
 
 pub translate-keeps : TranslateKeeps papers
 unfolding translate

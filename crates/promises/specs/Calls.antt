@@ -1,10 +1,11 @@
--- Six calls, each by the outcomes that its contract allows. A promise is said of any such six. Assumes nothing.
+-- Nine calls, each by the outcomes that its contract allows. A promise is said of any such nine. Assumes nothing.
 use mathlib.Core.List.{List}
 use Prim.Native.Nat.{ℕ}
 use Rattle.paper.specs.Files.{Counted}
 use Rattle.paper.specs.Judgement.{Answer}
 use Rattle.paper.specs.Edits.{Request, Outcome}
 use Rattle.paper.specs.Inclusion.{Compared}
+use Rattle.paper.specs.Dtd.Imported.{Spot}
 use Rattle.paper.specs.Calls as paper
 
 -- what each is given, and an outcome: the answer and every place of lent memory after the call
@@ -15,12 +16,25 @@ pub record Calls : Type 1 where
   pub Checks : (table buffer : List ℕ) → (used : ℕ) → Answer → Type 0
   pub Performs : (table buffer : List ℕ) → (used : ℕ) → Request → Outcome → Type 0
   pub Compares : (old new : List ℕ) → (element : ℕ) → (buffer : List ℕ) → Compared → Type 0
+  pub Imports : (text buffer : List ℕ) → Counted → Type 0
+  pub Names : (text buffer : List ℕ) → Counted → Type 0
+  pub Spots : (text : List ℕ) → Spot → Type 0
 
--- the paper's six
+-- the paper's nine
 abbrev pub papers : Calls
-papers = record { Reads = paper.Reads; Writes = paper.Writes; Translates = paper.Translates; Checks = paper.Checks; Performs = paper.Performs; Compares = paper.Compares }
+papers = record {
+  Reads = paper.Reads;
+  Writes = paper.Writes;
+  Translates = paper.Translates;
+  Checks = paper.Checks;
+  Performs = paper.Performs;
+  Compares = paper.Compares;
+  Imports = paper.Imports;
+  Names = paper.Names;
+  Spots = paper.Spots;
+}
 
--- six calls that allow no outcome but the paper's: of these every promise is proved
+-- nine calls that allow no outcome but the paper's: of these every promise is proved
 pub record Faithful (calls : Calls) : Type 0 where
   pub reads : (file buffer : List ℕ) (o : Counted) → calls .Reads file buffer o → paper.Reads file buffer o
   pub writes : (tokens buffer : List ℕ) (o : Counted) → calls .Writes tokens buffer o → paper.Writes tokens buffer o
@@ -28,6 +42,9 @@ pub record Faithful (calls : Calls) : Type 0 where
   pub checks : (table buffer : List ℕ) (used : ℕ) (o : Answer) → calls .Checks table buffer used o → paper.Checks table buffer used o
   pub performs : (table buffer : List ℕ) (used : ℕ) (q : Request) (o : Outcome) → calls .Performs table buffer used q o → paper.Performs table buffer used q o
   pub compares : (old new : List ℕ) (e : ℕ) (buffer : List ℕ) (o : Compared) → calls .Compares old new e buffer o → paper.Compares old new e buffer o
+  pub imports : (text buffer : List ℕ) (o : Counted) → calls .Imports text buffer o → paper.Imports text buffer o
+  pub names : (text buffer : List ℕ) (o : Counted) → calls .Names text buffer o → paper.Names text buffer o
+  pub spots : (text : List ℕ) (o : Spot) → calls .Spots text o → paper.Spots text o
 
 pub papers-faithful : Faithful papers
 papers-faithful = record {
@@ -37,4 +54,7 @@ papers-faithful = record {
   checks = λ table buffer used o c. c;
   performs = λ table buffer used q o p. p;
   compares = λ old new e buffer o c. c;
+  imports = λ text buffer o i. i;
+  names = λ text buffer o n. n;
+  spots = λ text o s. s;
 }

@@ -6,9 +6,14 @@ pub mod OnTree
 pub mod ByTable
 pub mod ByFile
 pub mod Run
+-- Item 4: what is promised, and its proofs
+pub mod Dtd
+pub mod Imported
 -- Item 12: what is promised, and its proofs
 pub mod Inclusion
 pub mod Compared
 pub mod Pointing
 pub mod Theorems
+pub mod DtdTheorems
 pub mod Example
+pub mod DtdExample

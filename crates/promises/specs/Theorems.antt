@@ -1,5 +1,5 @@
--- Every promise that is proved: a line for each statement, with the proof that it cites. Those of the calls are proved of any six that
--- allow no outcome but the paper's. Assumes nothing.
+-- Every promise that is proved, but for those of item 4 (DtdTheorems): a line for each statement, with the proof that it cites. Those of
+-- the calls are proved of any nine that allow no outcome but the paper's. Assumes nothing.
 use mathlib.Core.Path.{_≡_, _∙_}
 use mathlib.Core.Logic.{_↔_}
 use mathlib.Core.Bool.{true}

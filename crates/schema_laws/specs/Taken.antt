@@ -120,5 +120,9 @@ pub taken-exactly : (file : List ℕ) (s : Schema) → bytes file ≡ true
     → ((left : List ℕ) × (schemaOf file ≡ ok s left)) ↔ ((file ≡ fileOf (schemaWritten s)) × (formed s ≡ true) × Unambiguous (s .elements))
 taken-exactly file s b = rw (file-ahead (schemaWritten s)) (λ (left, e). took-form (schema-ends file b) e, λ (p, f, h). ([], rw p (taken-of s f h)))
 
+-- the file of such a schema is taken whole: nothing is left over
+pub taken-whole : (s : Schema) → formed s ≡ true → Unambiguous (s .elements) → schemaOf (fileOf (schemaWritten s)) ≡ ok s []
+taken-whole s f h = ap schemaOf (file-ahead (schemaWritten s)) ∙ taken-of s f h
+
 pub ambiguous-exactly : (file : List ℕ) → bytes file ≡ true → (schemaOf file ≡ stop 3) ↔ MeetsAmbiguous file
 ambiguous-exactly file b = (met-there (schema-ends file b), met-of file)

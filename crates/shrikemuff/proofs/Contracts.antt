@@ -1,4 +1,4 @@
--- The contracts of the six calls, as they stand. Each asks nothing of a caller, and allows no outcome but the paper's. Assumes nothing.
+-- The contracts of the nine calls, as they stand. Each asks nothing of a caller, and allows no outcome but the paper's. Assumes nothing.
 use mathlib.Core.List.{List}
 use Prim.Native.Nat.{ℕ}
 use denote.Ref.{now}
@@ -6,9 +6,10 @@ use Rattle.paper.specs.Files.{Counted}
 use Rattle.paper.specs.Judgement.{Answer}
 use Rattle.paper.specs.Edits.{Request, Outcome}
 use Rattle.paper.specs.Inclusion.{Compared}
-use Rattle.paper.specs.Calls.{Reads, Writes, Translates, Checks, Performs, Compares}
+use Rattle.paper.specs.Dtd.Imported.{Spot}
+use Rattle.paper.specs.Calls.{Reads, Writes, Translates, Checks, Performs, Compares, Imports, Names, Spots}
 use Rattle.contracts.specs.{Call, TakesAll, Allows, allowed}
-use Rattle.shrikemuff.specs.Outcomes.{counted, edited, compared}
+use Rattle.shrikemuff.specs.Outcomes.{counted, edited, compared, spotted}
 use Rattle.shrikemuff.proofs.shrike_read.Kinds as read-kinds
 use Rattle.shrikemuff.proofs.shrike_read.Reads as read
 use Rattle.shrikemuff.proofs.shrike_write.Kinds as write-kinds
@@ -21,6 +22,12 @@ use Rattle.shrikemuff.proofs.shrike_edit.Kinds as edit-kinds
 use Rattle.shrikemuff.proofs.shrike_edit.Reads as edit
 use Rattle.shrikemuff.proofs.shrike_compare.Kinds as compare-kinds
 use Rattle.shrikemuff.proofs.shrike_compare.Reads as compare
+use Rattle.shrikemuff.proofs.shrike_import.Kinds as import-kinds
+use Rattle.shrikemuff.proofs.shrike_import.Reads as import
+use Rattle.shrikemuff.proofs.shrike_names.Kinds as names-kinds
+use Rattle.shrikemuff.proofs.shrike_names.Reads as names
+use Rattle.shrikemuff.proofs.shrike_import_spot.Kinds as spot-kinds
+use Rattle.shrikemuff.proofs.shrike_import_spot.Reads as spot
 
 -- ---- the reader: file and buffer
 
@@ -136,3 +143,60 @@ compare-takes-all κs given = tt
 
 pub compares : (i : List ℕ × List ℕ × ℕ × List ℕ) (o : Compared) → Allows shrike-compare i o → Compares (i .0) (i .1) (i .2) (i .3) o
 compares = allowed shrike-compare (λ i o. Compares (i .0) (i .1) (i .2) (i .3) o) (λ κs given result after told. told)
+
+-- ---- the importer: text and buffer
+
+abbrev pub shrike-import : Call (List ℕ × List ℕ) Counted
+shrike-import = record {
+  lifetimes = 2;
+  ps = import-kinds.ps;
+  r = import-kinds.r;
+  Asked = import.Asked;
+  Learnt = import.Learnt;
+  input = λ κs given. (now (given .0), now (given .1 .0));
+  outcome = λ κs result after. counted result (now (after .1 .0));
+}
+
+pub import-takes-all : TakesAll shrike-import
+import-takes-all κs given = tt
+
+pub imports : (i : List ℕ × List ℕ) (o : Counted) → Allows shrike-import i o → Imports (i .0) (i .1) o
+imports = allowed shrike-import (λ i o. Imports (i .0) (i .1) o) (λ κs given result after told. told)
+
+-- ---- the names of a text: text and buffer
+
+abbrev pub shrike-names : Call (List ℕ × List ℕ) Counted
+shrike-names = record {
+  lifetimes = 2;
+  ps = names-kinds.ps;
+  r = names-kinds.r;
+  Asked = names.Asked;
+  Learnt = names.Learnt;
+  input = λ κs given. (now (given .0), now (given .1 .0));
+  outcome = λ κs result after. counted result (now (after .1 .0));
+}
+
+pub names-takes-all : TakesAll shrike-names
+names-takes-all κs given = tt
+
+pub lists : (i : List ℕ × List ℕ) (o : Counted) → Allows shrike-names i o → Names (i .0) (i .1) o
+lists = allowed shrike-names (λ i o. Names (i .0) (i .1) o) (λ κs given result after told. told)
+
+-- ---- where a text is refused: text
+
+abbrev pub shrike-import-spot : Call (List ℕ) Spot
+shrike-import-spot = record {
+  lifetimes = 1;
+  ps = spot-kinds.ps;
+  r = spot-kinds.r;
+  Asked = spot.Asked;
+  Learnt = spot.Learnt;
+  input = λ κs given. now (given .0);
+  outcome = λ κs result after. spotted result;
+}
+
+pub spot-takes-all : TakesAll shrike-import-spot
+spot-takes-all κs given = tt
+
+pub spots : (i : List ℕ) (o : Spot) → Allows shrike-import-spot i o → Spots i o
+spots = allowed shrike-import-spot Spots (λ κs given result after told. told)

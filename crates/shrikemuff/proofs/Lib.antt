@@ -1,2 +1,2 @@
--- Contracts says what the six contracts allow.
+-- Contracts says what the nine contracts allow.
 pub mod Contracts

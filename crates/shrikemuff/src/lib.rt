@@ -1,4 +1,4 @@
-// The host library: the six calls under the names and types of C. `include/shrikemuff.h` describes them to a host.
+// The host library: the nine calls under the names and types of C. `include/shrikemuff.h` describes them to a host.
 //
 // A slice is a pointer and a length, a struct is C's struct. No call asks anything of its arguments, allocates or keeps state; the
 // contract of each fixes the whole outcome: the answer and every place of lent memory. `proofs/Contracts.antt` holds them to the
@@ -6,8 +6,8 @@
 // Assumes nothing.
 pub mod version;
 
-ghost use Rattle.paper.specs.Calls.{Reads, Writes, Translates, Checks, Performs, Compares};
-ghost use Rattle.shrikemuff.specs.Outcomes.{counted, edited, compared};
+ghost use Rattle.paper.specs.Calls.{Reads, Writes, Translates, Checks, Performs, Compares, Imports, Names, Spots};
+ghost use Rattle.shrikemuff.specs.Outcomes.{counted, edited, compared, spotted};
 
 // "reader and writer [answer] a number and the count of tokens or bytes, 0 when refused"
 #[repr(C)]
@@ -38,6 +38,13 @@ pub struct Compared {
     pub number: u32,
     pub takes_all: u32,
     pub length: u32,
+}
+
+// Items 4 and 13: the byte offset in a text of what is at fault.
+#[repr(C)]
+pub struct Spot {
+    pub number: u32,
+    pub offset: u64,
 }
 
 // Reads a document file into the first places of the buffer.
@@ -120,5 +127,41 @@ pub extern "C" fn shrike_compare(
         number: told.number,
         takes_all: told.takes_all,
         length: told.length,
+    }
+}
+
+// Turns a DTD text into a schema file, in the first bytes of the buffer.
+#[no_mangle]
+pub extern "C" fn shrike_import(text: &[u8], file: &mut [u8]) -> Count
+    ensures { λ r. ⌜ Imports (now (text .entry)) (now (file .entry)) (counted r (now (file .exit))) ⌝ }
+{
+    let turned = dtd::import(text, file);
+    Count {
+        number: turned.number,
+        count: turned.count,
+    }
+}
+
+// Writes the names of a DTD text into the first bytes of the buffer.
+#[no_mangle]
+pub extern "C" fn shrike_names(text: &[u8], names: &mut [u8]) -> Count
+    ensures { λ r. ⌜ Names (now (text .entry)) (now (names .entry)) (counted r (now (names .exit))) ⌝ }
+{
+    let listed = dtd::names(text, names);
+    Count {
+        number: listed.number,
+        count: listed.count,
+    }
+}
+
+// Tells where a DTD text is refused.
+#[no_mangle]
+pub extern "C" fn shrike_import_spot(text: &[u8]) -> Spot
+    ensures { λ r. ⌜ Spots (now (text .entry)) (spotted r) ⌝ }
+{
+    let met = dtd::import_spot(text);
+    Spot {
+        number: met.number,
+        offset: met.offset as u64,
     }
 }

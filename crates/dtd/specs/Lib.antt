@@ -1,0 +1,2 @@
+-- What the three calls leave.
+pub mod Outcomes

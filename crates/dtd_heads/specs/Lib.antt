@@ -1,0 +1,4 @@
+-- The table of the rows of elements that ATTLISTs named.
+pub mod Heads
+pub mod Keeping
+pub mod After

@@ -1,0 +1,2 @@
+-- Kinds and statuses at a place of a text.
+pub mod Kinds

@@ -1,0 +1,3 @@
+-- What the code holds of the symbols of a model.
+pub mod Held
+pub mod Named

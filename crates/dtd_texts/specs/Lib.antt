@@ -1,0 +1,5 @@
+-- Declarations of a text, one after another: turns of the loop.
+pub mod Whole
+pub mod Standing
+pub mod Ways
+pub mod Turns

@@ -1,0 +1,3 @@
+-- Places of a text, and turns of the loops along it.
+pub mod Places
+pub mod Words
