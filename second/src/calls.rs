@@ -2,6 +2,7 @@
 
 use crate::memory::{bytes_of, Lender, Side};
 use second::case::{Case, Memory, Outcome, Said};
+use second::paper::dtd::Spot;
 use second::paper::edits::Answer;
 use second::paper::judgement::Verdict;
 use second::paper::program::Files;
@@ -10,6 +11,9 @@ use shrikemuff::raw as library;
 use std::fs;
 use std::path::{Path, PathBuf};
 use std::process::Command;
+
+/// More bytes than a schema file has: two for each of 255 symbols, and 64 attributes of three numbers, 48 times.
+const LONGEST_SCHEMA: usize = 65_536;
 
 /// A piece of lent memory: its name, the width of its numbers, and its bytes.
 struct Lent<'a> {
@@ -22,15 +26,22 @@ fn lent<'a, T: Copy>(name: &'static str, numbers: &'a [T]) -> Lent<'a> {
     Lent { name, width: std::mem::size_of::<T>(), bytes: bytes_of(numbers) }
 }
 
-/// The memory of a case, in the order of the call. What is lent for writing is the second.
+/// The memory of a case, what is lent for writing being the second; else in the order of the call.
 fn memory_of(case: &Case) -> Vec<Lent<'_>> {
     match case {
         Case::Read { file, buffer } => vec![lent("file", file), lent("buffer", buffer)],
         Case::Write { tokens, buffer } => vec![lent("tokens", tokens), lent("buffer", buffer)],
         Case::Translate { file, buffer } => vec![lent("file", file), lent("table", buffer)],
+        Case::Import { text, buffer } => vec![lent("text", text), lent("file", buffer)],
+        Case::Names { text, buffer } => vec![lent("text", text), lent("names", buffer)],
+        Case::Spot { text } => vec![lent("text", text)],
+        Case::Imported { text, buffer } => vec![lent("text", text), lent("table", buffer)],
         Case::Check { table, doc, .. } => vec![lent("table", &table.words), lent("document", doc)],
         Case::Edit { table, doc, edit, .. } => {
             vec![lent("table", &table.words), lent("document", doc), lent("piece", &edit.piece)]
+        }
+        Case::Compare { old, new, buffer, .. } => {
+            vec![lent("old table", &old.words), lent("sequence", buffer), lent("new table", &new.words)]
         }
         Case::Program(_) => vec![],
     }
@@ -104,6 +115,26 @@ impl Caller {
                 Case::Translate { file, buffer } => {
                     Said::Number(library::shrike_translate(at[0], file.len(), at[1] as *mut u64, buffer.len()))
                 }
+                Case::Import { text, buffer } => {
+                    let said = library::shrike_import(at[0], text.len(), at[1], buffer.len());
+                    Said::Count { number: said.number, count: said.count }
+                }
+                Case::Names { text, buffer } => {
+                    let said = library::shrike_names(at[0], text.len(), at[1], buffer.len());
+                    Said::Count { number: said.number, count: said.count }
+                }
+                Case::Spot { text } => {
+                    let said = library::shrike_import_spot(at[0], text.len());
+                    Said::Spot(Spot { number: said.number, offset: said.offset })
+                }
+                Case::Imported { text, buffer } => {
+                    let mut file = vec![0; LONGEST_SCHEMA];
+                    let said = library::shrike_import(at[0], text.len(), file.as_mut_ptr(), file.len());
+                    Said::Number(match said.number {
+                        0 => library::shrike_translate(file.as_ptr(), said.count as usize, at[1] as *mut u64, buffer.len()),
+                        number => number,
+                    })
+                }
                 Case::Check { table, doc, used } => {
                     let (words, room) = (table.words.len(), doc.len());
                     let said = library::shrike_check(at[0] as *const u64, words, at[1] as *const u32, room, *used);
@@ -122,6 +153,18 @@ impl Caller {
                         edit.piece.len(),
                     );
                     Said::Answer(Answer { number: said.number, place: said.place, used: said.used, change: said.change })
+                }
+                Case::Compare { old, new, element, buffer } => {
+                    let said = library::shrike_compare(
+                        at[0] as *const u64,
+                        old.words.len(),
+                        at[2] as *const u64,
+                        new.words.len(),
+                        *element,
+                        at[1] as *mut u32,
+                        buffer.len(),
+                    );
+                    Said::Compared { number: said.number, takes_all: said.takes_all, length: said.length }
                 }
                 Case::Program(files) => return self.run_program(files),
             }
@@ -152,10 +195,12 @@ pub fn in_words(said: &Said) -> String {
     match said {
         Said::Count { number, count } => format!("number {number}, count {count}"),
         Said::Number(number) => format!("number {number}"),
+        Said::Spot(spot) => format!("number {}, offset {}", spot.number, spot.offset),
         Said::Verdict(verdict) => format!("number {}, place {}", verdict.number, verdict.place),
         Said::Answer(answer) => {
             format!("number {}, place {}, used {}, change {}", answer.number, answer.place, answer.used, answer.change)
         }
+        Said::Compared { number, takes_all, length } => format!("number {number}, takes all {takes_all}, length {length}"),
         Said::Printed(text) => format!("{:?}", String::from_utf8_lossy(text)),
     }
 }

@@ -1,10 +1,11 @@
 //! A case: one call with all that is lent to it, and what the paper says of it.
 
+use crate::paper::dtd::{self, Spot};
 use crate::paper::edits::{self, Answer, Edit};
 use crate::paper::grammar::Grammar;
 use crate::paper::judgement::{self, Verdict};
 use crate::paper::program::{self, Files};
-use crate::paper::{answer, numbers, schema_file, table};
+use crate::paper::{answer, compare, numbers, schema_file, table};
 use std::rc::Rc;
 
 /// A table to be lent. `grammar` is what it asks for, None if it is not proper; `schema` is the file it was translated from.
@@ -29,14 +30,20 @@ impl Table {
     }
 }
 
-/// A call and its inputs. A `buffer` and the document of an edit are lent for writing; all else only for reading.
+/// A call and its inputs; `Imported` is two: what is imported, if it is, is translated. A `buffer` and the document of an edit are lent for
+/// writing; all else only for reading.
 #[derive(Clone, Debug)]
 pub enum Case {
     Read { file: Vec<u8>, buffer: Vec<u32> },
     Write { tokens: Vec<u32>, buffer: Vec<u8> },
     Translate { file: Vec<u8>, buffer: Vec<u64> },
+    Import { text: Vec<u8>, buffer: Vec<u8> },
+    Names { text: Vec<u8>, buffer: Vec<u8> },
+    Spot { text: Vec<u8> },
+    Imported { text: Vec<u8>, buffer: Vec<u64> },
     Check { table: Rc<Table>, doc: Vec<u32>, used: u64 },
     Edit { table: Rc<Table>, doc: Vec<u32>, used: u64, edit: Edit },
+    Compare { old: Rc<Table>, new: Rc<Table>, element: u32, buffer: Vec<u32> },
     Program(Files),
 }
 
@@ -45,8 +52,10 @@ pub enum Case {
 pub enum Said {
     Count { number: u32, count: u32 },
     Number(u32),
+    Spot(Spot),
     Verdict(Verdict),
     Answer(Answer),
+    Compared { number: u32, takes_all: u32, length: u32 },
     Printed(Vec<u8>),
 }
 
@@ -86,6 +95,22 @@ impl Case {
                 let (number, words) = split(translate(file, buffer.len()));
                 outcome(Said::Number(number), Memory::Words(over(buffer, &words)), "translate", number)
             }
+            Case::Import { text, buffer } => {
+                let (number, bytes) = split(dtd::import(text, buffer.len()));
+                outcome(Said::Count { number, count: bytes.len() as u32 }, Memory::Bytes(over(buffer, &bytes)), "import", number)
+            }
+            Case::Names { text, buffer } => {
+                let (number, bytes) = split(dtd::names(text, buffer.len()));
+                outcome(Said::Count { number, count: bytes.len() as u32 }, Memory::Bytes(over(buffer, &bytes)), "names", number)
+            }
+            Case::Spot { text } => {
+                let spot = dtd::spot(text);
+                outcome(Said::Spot(spot), Memory::None, "import spot", spot.number)
+            }
+            Case::Imported { text, buffer } => {
+                let (number, words) = split(dtd::grammar(text).map(|grammar| table::of(&grammar)));
+                outcome(Said::Number(number), Memory::Words(over(buffer, &words)), "import, translate", number)
+            }
             Case::Check { table, doc, used } => {
                 let verdict = judgement::check(table.grammar.as_ref(), doc, *used);
                 outcome(Said::Verdict(verdict), Memory::None, "check", verdict.number)
@@ -93,6 +118,13 @@ impl Case {
             Case::Edit { table, doc, used, edit } => {
                 let (answer, after) = edits::edit(table.grammar.as_ref(), doc, *used, edit);
                 outcome(Said::Answer(answer), Memory::Tokens(after), operation_name(edit.operation), answer.number)
+            }
+            Case::Compare { old, new, element, buffer } => {
+                match compare::compare(old.grammar.as_ref(), new.grammar.as_ref(), *element, buffer.len()) {
+                    Ok(None) => compared((0, 1), buffer, &[], "compare yes"),
+                    Ok(Some(lost)) => compared((0, 0), buffer, &lost, "compare no"),
+                    Err(number) => compared((number, 0), buffer, &[], "compare refused"),
+                }
             }
             Case::Program(files) => {
                 let printed = program::printed(files);
@@ -106,8 +138,13 @@ impl Case {
             Case::Read { .. } => "read",
             Case::Write { .. } => "write",
             Case::Translate { .. } => "translate",
+            Case::Import { .. } => "import",
+            Case::Names { .. } => "names",
+            Case::Spot { .. } => "spot",
+            Case::Imported { .. } => "imported",
             Case::Check { .. } => "check",
             Case::Edit { .. } => "edit",
+            Case::Compare { .. } => "compare",
             Case::Program(_) => "program",
         }
     }
@@ -118,6 +155,10 @@ impl Case {
             Case::Read { file, buffer } => format!("read: {} bytes, room for {}", file.len(), buffer.len()),
             Case::Write { tokens, buffer } => format!("write: {} tokens, room for {} bytes", tokens.len(), buffer.len()),
             Case::Translate { file, buffer } => format!("translate: {} bytes, room for {} words", file.len(), buffer.len()),
+            Case::Import { text, buffer } => format!("import: room for {} bytes\n  text {}", buffer.len(), quoted(text)),
+            Case::Names { text, buffer } => format!("names: room for {} bytes\n  text {}", buffer.len(), quoted(text)),
+            Case::Spot { text } => format!("import spot\n  text {}", quoted(text)),
+            Case::Imported { text, .. } => format!("import and translate\n  text {}", quoted(text)),
             Case::Check { table, doc, used } => {
                 format!("check: {}, buffer of {}, used {used}\n  document {}", table_in_words(table), doc.len(), short(doc))
             }
@@ -132,6 +173,9 @@ impl Case {
                 edit.piece.len(),
                 short(&edit.piece)
             ),
+            Case::Compare { old, new, element, buffer } => {
+                format!("compare element {element}: old {}, new {}, room for {}", table_in_words(old), table_in_words(new), buffer.len())
+            }
             Case::Program(files) => format!(
                 "program: schema.dat {}, doc.dat {}, edits.dat {}",
                 file_in_words(&files.schema),
@@ -144,6 +188,12 @@ impl Case {
 
 fn outcome(said: Said, after: Memory, what: &'static str, number: u32) -> Outcome {
     Outcome { said, after, counted: vec![(what, number)] }
+}
+
+/// Number and yes or no, and the sequence over the front of the buffer.
+fn compared((number, takes_all): (u32, u32), buffer: &[u32], sequence: &[u32], what: &'static str) -> Outcome {
+    let said = Said::Compared { number, takes_all, length: sequence.len() as u32 };
+    outcome(said, Memory::Tokens(over(buffer, sequence)), what, number)
 }
 
 fn translate(file: &[u8], room: usize) -> Result<Vec<u64>, u32> {
@@ -191,6 +241,12 @@ fn file_in_words(file: &Option<Vec<u8>>) -> String {
         None => "missing".to_string(),
         Some(file) => format!("{} bytes", file.len()),
     }
+}
+
+/// The first bytes of a text and their count.
+fn quoted(text: &[u8]) -> String {
+    let shown = String::from_utf8_lossy(&text[..text.len().min(400)]);
+    format!("of {} bytes {shown:?}", text.len())
 }
 
 /// The first numbers of a list.

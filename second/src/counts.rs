@@ -4,11 +4,18 @@ use second::case::{Case, Outcome, Said};
 use second::make::programs::WAYS;
 use std::collections::BTreeMap;
 
+/// The answers are the numbers below this.
+const ANSWERS: usize = 17;
+
 /// The answers that each kind of call can give. Those of an edit are asked for by operation.
-const CALLS: [(&str, &[usize]); 10] = [
+const CALLS: [(&str, &[usize]); 17] = [
     ("read", &[0, 1, 5]),
     ("write", &[0, 4, 5]),
     ("translate", &[0, 1, 2, 3, 13]),
+    ("import", &[0, 2, 5, 14]),
+    ("names", &[0, 2, 5, 14]),
+    ("import spot", &[0, 2, 14]),
+    ("import, translate", &[0, 3]),
     ("check", &[0, 4, 8, 9, 10, 11, 12, 13]),
     ("insert", &[0, 4, 5, 6, 7, 8, 9, 10, 11, 12, 13]),
     ("remove", &[0, 4, 6, 7, 8, 9, 10, 11, 12, 13]),
@@ -16,6 +23,9 @@ const CALLS: [(&str, &[usize]); 10] = [
     ("set", &[0, 4, 5, 6, 7, 8, 9, 10, 11, 12, 13]),
     ("drop", &[0, 4, 6, 7, 8, 9, 10, 11, 12, 13]),
     ("no operation", &[4, 6, 13]),
+    ("compare yes", &[0]),
+    ("compare no", &[0]),
+    ("compare refused", &[5, 6, 13, 16]),
 ];
 
 /// The lines that the edit program can print. Its document is valid before each edit, so none gives 7.
@@ -31,7 +41,7 @@ const LINES: [(&str, &[usize]); 7] = [
 
 #[derive(Default)]
 pub struct Counts {
-    rows: BTreeMap<&'static str, [u64; 14]>,
+    rows: BTreeMap<&'static str, [u64; ANSWERS]>,
     pub cases: u64,
     pub programs: u64,
     /// Of edits that were done: the greatest loss and gain in length, and how many began or ended at 8,192 tokens.
@@ -39,6 +49,8 @@ pub struct Counts {
     gain: i32,
     full: u64,
     longest_piece: usize,
+    /// Of comparisons that say no.
+    longest_lost: u32,
 }
 
 impl Counts {
@@ -46,7 +58,10 @@ impl Counts {
         self.cases += 1;
         self.programs += u64::from(matches!(case, Case::Program(_)));
         for (what, number) in &outcome.counted {
-            self.rows.entry(what).or_insert([0; 14])[*number as usize] += 1;
+            self.rows.entry(what).or_insert([0; ANSWERS])[*number as usize] += 1;
+        }
+        if let Said::Compared { length, .. } = &outcome.said {
+            self.longest_lost = self.longest_lost.max(*length);
         }
         if let (Case::Edit { used, edit, .. }, Said::Answer(answer)) = (case, &outcome.said) {
             self.longest_piece = self.longest_piece.max(edit.piece.len());
@@ -59,7 +74,7 @@ impl Counts {
     }
 
     pub fn print(&self) {
-        let head: Vec<String> = (0..14).map(|number| format!("{number:>7}")).collect();
+        let head: Vec<String> = (0..ANSWERS).map(|number| format!("{number:>7}")).collect();
         println!("{:21}{}", "answers", head.concat());
         for (what, _) in CALLS.iter().chain(&LINES) {
             if let Some(row) = self.rows.get(what) {
@@ -67,8 +82,9 @@ impl Counts {
                 println!("{what:21}{}", row.concat());
             }
         }
-        let Counts { loss, gain, full, longest_piece, .. } = self;
+        let Counts { loss, gain, full, longest_piece, longest_lost, .. } = self;
         println!("edits done: change from {loss} to {gain}, {full} at 8192 tokens; longest piece {longest_piece}");
+        println!("comparisons: longest sequence lost {longest_lost}");
     }
 
     /// The answers that could have been given and were not, if there were enough cases to ask for all.

@@ -29,6 +29,15 @@ pub fn save(folder: &Path, case: &Case, sides: u8) -> Result<()> {
             fs::write(folder.join("schema.dat"), file)?;
             write_numbers(folder, "buffer.txt", buffer)?;
         }
+        Case::Import { text, buffer } | Case::Names { text, buffer } => {
+            fs::write(folder.join("text.dtd"), text)?;
+            write_numbers(folder, "buffer.txt", buffer)?;
+        }
+        Case::Spot { text } => fs::write(folder.join("text.dtd"), text)?,
+        Case::Imported { text, buffer } => {
+            fs::write(folder.join("text.dtd"), text)?;
+            write_numbers(folder, "buffer.txt", buffer)?;
+        }
         Case::Check { table, doc, used } => {
             save_table(folder, table)?;
             write_numbers(folder, "doc.txt", doc)?;
@@ -39,6 +48,14 @@ pub fn save(folder: &Path, case: &Case, sides: u8) -> Result<()> {
             write_numbers(folder, "doc.txt", doc)?;
             write_numbers(folder, "piece.txt", &edit.piece)?;
             small += &format!("used {used}\noperation {}\nplace {}\n", edit.operation, edit.place);
+        }
+        Case::Compare { old, new, element, buffer } => {
+            for (name, table) in [("old", old), ("new", new)] {
+                fs::create_dir_all(folder.join(name))?;
+                save_table(&folder.join(name), table)?;
+            }
+            write_numbers(folder, "buffer.txt", buffer)?;
+            small += &format!("element {element}\n");
         }
         Case::Program(files) => save_files(folder, files)?,
     }
@@ -76,12 +93,22 @@ pub fn load(folder: &Path) -> Result<(Case, u8)> {
         "read" => Case::Read { file: fs::read(folder.join("file.dat"))?, buffer: numbers(folder, "buffer.txt")? },
         "write" => Case::Write { tokens: numbers(folder, "tokens.txt")?, buffer: numbers(folder, "buffer.txt")? },
         "translate" => Case::Translate { file: fs::read(folder.join("schema.dat"))?, buffer: numbers(folder, "buffer.txt")? },
+        "import" => Case::Import { text: fs::read(folder.join("text.dtd"))?, buffer: numbers(folder, "buffer.txt")? },
+        "names" => Case::Names { text: fs::read(folder.join("text.dtd"))?, buffer: numbers(folder, "buffer.txt")? },
+        "spot" => Case::Spot { text: fs::read(folder.join("text.dtd"))? },
+        "imported" => Case::Imported { text: fs::read(folder.join("text.dtd"))?, buffer: numbers(folder, "buffer.txt")? },
         "check" => Case::Check { table: load_table(folder)?, doc: numbers(folder, "doc.txt")?, used: number(&small, "used")? },
         "edit" => Case::Edit {
             table: load_table(folder)?,
             doc: numbers(folder, "doc.txt")?,
             used: number(&small, "used")?,
             edit: Edit { operation: number(&small, "operation")?, place: number(&small, "place")?, piece: numbers(folder, "piece.txt")? },
+        },
+        "compare" => Case::Compare {
+            old: load_table(&folder.join("old"))?,
+            new: load_table(&folder.join("new"))?,
+            element: number(&small, "element")?,
+            buffer: numbers(folder, "buffer.txt")?,
         },
         "program" => Case::Program(Files {
             schema: fs::read(folder.join("schema.dat")).ok(),

@@ -1,62 +1,16 @@
 //! Derivatives, occurrence sets and ambiguity against the meaning of expressions: the runs that an expression describes are
 //! listed, up to a length.
 
+mod listed;
+
+use listed::{all_runs, runs, Runs};
 use second::make::expressions;
 use second::paper::derivatives::Matcher;
-use second::paper::expression::Expression::{self, Choice, Name, Optional, Plus, Sequence, Star};
+use second::paper::expression::Expression;
+use second::paper::grammar::{Content, Declaration, Model};
 use second::paper::{occurrences, table};
 use second::random::Random;
 use std::collections::BTreeSet;
-
-type Runs = BTreeSet<Vec<u16>>;
-
-/// All runs of at most this many letters that an expression describes.
-fn runs(expression: &Expression, most: usize) -> Runs {
-    match expression {
-        Name(name) => Runs::from([vec![*name]]).into_iter().filter(|run| run.len() <= most).collect(),
-        Choice(one, two) => runs(one, most).union(&runs(two, most)).cloned().collect(),
-        Sequence(one, two) => joined(&runs(one, most), &runs(two, most), most),
-        Optional(one) => with_empty(runs(one, most)),
-        Star(one) => repeated(&runs(one, most), with_empty(Runs::new()), most),
-        Plus(one) => repeated(&runs(one, most), runs(one, most), most),
-    }
-}
-
-fn with_empty(mut runs: Runs) -> Runs {
-    runs.insert(vec![]);
-    runs
-}
-
-fn joined(ones: &Runs, twos: &Runs, most: usize) -> Runs {
-    let pairs = ones.iter().flat_map(|one| twos.iter().map(move |two| [&one[..], &two[..]].concat()));
-    pairs.filter(|run| run.len() <= most).collect()
-}
-
-/// What is begun, gone on with any number of times.
-fn repeated(ones: &Runs, begun: Runs, most: usize) -> Runs {
-    let more: Runs = joined(&begun, ones, most).union(&begun).cloned().collect();
-    match more == begun {
-        true => begun,
-        false => repeated(ones, more, most),
-    }
-}
-
-/// All runs of these letters.
-fn all_runs(letters: u16, most: usize) -> Vec<Vec<u16>> {
-    let mut all = vec![vec![]];
-    let mut from = 0;
-    for _ in 0..most {
-        let to = all.len();
-        for i in from..to {
-            for letter in 0..letters {
-                let longer = [&all[i][..], &[letter]].concat();
-                all.push(longer);
-            }
-        }
-        from = to;
-    }
-    all
-}
 
 fn drawn(number: u64) -> Expression {
     let mut random = Random::new(11, number);
@@ -76,6 +30,35 @@ fn derivatives_match_what_is_described() {
             assert_eq!(matcher.matches(word), described.contains(word), "{expression:?} {word:?}");
         }
     }
+}
+
+/// Content stops where no run that is described begins that way: runs of 6 are enough for 3 occurrences and beginnings of 4.
+#[test]
+fn content_stops_where_no_run_begins() {
+    let words = all_runs(3, 4);
+    let mut kinds = [0; 3];
+    for number in 0..500 {
+        let expression = drawn(number);
+        if expression.names().len() > 3 {
+            continue;
+        }
+        let described = runs(&expression, 6);
+        let begun: Runs = described.iter().flat_map(|run| (0..=run.len().min(4)).map(move |i| run[..i].to_vec())).collect();
+        let declaration = Declaration { content: Content::Model(Model::new(expression.clone())), attributes: vec![] };
+        for word in &words {
+            let first = (0..word.len()).find(|i| !begun.contains(&word[..=*i]));
+            let stop = first.or_else(|| (!described.contains(word)).then_some(word.len()));
+            let items: Vec<Option<u16>> = word.iter().map(|name| Some(*name)).collect();
+            assert_eq!(declaration.stop(&items), stop, "{expression:?} {word:?}");
+            kinds[if first.is_some() { 0 } else { 1 + usize::from(stop.is_some()) }] += 1;
+            // A text is a child that nothing fits.
+            for at in 0..=word.len() {
+                let items = [&items[..at], &[None], &items[at..]].concat();
+                assert_eq!(declaration.stop(&items), Some(first.map_or(at, |first| first.min(at))));
+            }
+        }
+    }
+    assert!(kinds.iter().all(|count| *count > 500), "{kinds:?}");
 }
 
 /// With at most 3 occurrences, every pair of neighbours and every run to a doubtful point stands in some run of 6.

@@ -64,12 +64,12 @@ fn checks() {
 
 #[test]
 fn marked_cases() {
-    assert_eq!(answer(2, 3, &[]).0, (9, 0, 15));
+    assert_eq!(answer(2, 3, &[]).0, (9, 3, 15));
     assert_eq!(answer(2, 10, &[]).0, (0, 0, 11));
     assert_eq!(answer(2, 7, &[]).0, (0, 0, 14));
     assert_eq!(answer(1, 10, &[9, 12, 165, 2]).0, (11, 12, 15));
     assert_eq!(answer(1, 10, &[9, 12, 173, 2]).0, (0, 0, 19));
-    assert_eq!(answer(1, 3, &[25, 20, 165, 2]).0, (9, 0, 15));
+    assert_eq!(answer(1, 3, &[25, 20, 165, 2]).0, (9, 3, 15));
     assert_eq!(answer(1, 10, &[25, 20, 165, 2]).0, (0, 0, 19));
     assert_eq!(answer(3, 3, &[9, 12, 173, 2]).0, (12, 9, 15));
     assert_eq!(answer(5, 3, &[12]).0, (8, 3, 15));
@@ -94,12 +94,22 @@ fn rows() {
     assert_eq!(answer(2, 7, &[]).1[..15], [1, 4, 61, 9, 12, 165, 17, 2, 2, 25, 20, 165, 2, 2, 0]);
     assert_eq!(answer(1, 9, &[17, 2]).0, (0, 0, 17));
     assert_eq!(answer(1, 9, &[17, 243, 2]).0, (0, 0, 18));
-    assert_eq!(answer(1, 9, &[17, 243, 243, 2]).0, (9, 9, 15));
-    assert_eq!(answer(1, 9, &[17, 25, 20, 165, 2, 2]).0, (9, 9, 15));
-    assert_eq!(answer(1, 7, &[251]).0, (9, 6, 15));
-    assert_eq!(answer(1, 8, &[251]).0, (9, 6, 15));
-    assert_eq!(answer(3, 7, &[25, 20, 165, 2]).0, (9, 6, 15));
-    assert_eq!(answer(1, 13, &[243]).0, (9, 10, 15));
+    assert_eq!(answer(1, 9, &[17, 243, 243, 2]).0, (9, 11, 15));
+    assert_eq!(answer(1, 9, &[17, 25, 20, 165, 2, 2]).0, (9, 10, 15));
+    assert_eq!(answer(1, 7, &[251]).0, (9, 8, 15));
+    assert_eq!(answer(1, 8, &[251]).0, (9, 8, 15));
+    assert_eq!(answer(3, 7, &[25, 20, 165, 2]).0, (9, 7, 15));
+    assert_eq!(answer(1, 13, &[243]).0, (9, 13, 15));
+}
+
+/// Where content stops: at a child, at a text, at the end token; not the start, and not by place before another element's fault.
+#[test]
+fn stops() {
+    assert_eq!(answer(1, 14, &[9, 12, 173, 2]).0, (9, 14, 15));
+    assert_eq!(answer(1, 10, &[243]).0, (9, 10, 15));
+    assert_eq!(answer(3, 3, &[25, 20, 165, 2]).0, (9, 3, 15));
+    assert_eq!(answer(3, 0, &[1, 4, 61, 2]).0, (9, 3, 15));
+    assert_eq!(answer(3, 0, &[1, 4, 61, 9, 12, 165, 9, 2, 2, 81, 2, 2]).0, (9, 9, 15));
 }
 
 #[test]
@@ -157,11 +167,11 @@ fn six_lines() {
         edits: Some(numbers::file_of(edits)),
     };
     let good = files(Some(schema_file_bytes()), &DOCUMENT, &edits);
-    assert_eq!(printed(&good).text, "0 0 0 15\n1 9 0 15\n2 0 0 19\n3 11 9 19\n4 0 0 15\n5 0 0 8\n");
+    assert_eq!(printed(&good).text, "0 0 0 15\n1 9 3 15\n2 0 0 19\n3 11 9 19\n4 0 0 15\n5 0 0 8\n");
     assert_eq!(printed(&files(None, &DOCUMENT, &edits)).text, "stop 5\n");
     assert_eq!(printed(&files(Some(vec![]), &DOCUMENT, &edits)).text, "stop 1\n");
     assert_eq!(printed(&files(Some(schema_file_bytes()), &[], &edits)).text, "0 4 0 0\n");
-    assert_eq!(printed(&files(Some(schema_file_bytes()), &DOCUMENT, &edits[..5])).text, "0 0 0 15\n1 9 0 15\nstop 1\n");
+    assert_eq!(printed(&files(Some(schema_file_bytes()), &DOCUMENT, &edits[..5])).text, "0 0 0 15\n1 9 3 15\nstop 1\n");
     assert_eq!(printed(&files(Some(schema_file_bytes()), &DOCUMENT, &[2, 3, 8_193])).text, "0 0 0 15\nstop 5\n");
     assert_eq!(printed(&files(Some(numbers::file_of(&SCHEMA)), &DOCUMENT, &edits)).text, "stop 2\n");
 }

@@ -1,7 +1,7 @@
 #!/usr/bin/env python3
-"""Compares the definitions of the crate `paper` with reference.py.
+"""Compares the definitions of the crate `paper` with reference.py and dtd.py.
 
-Makes COUNT random cases beside some fixed ones at the limits, has reference.py
+Makes COUNT random cases beside some fixed ones at the limits, has these two
 give the answers, writes them as equations over the definitions, and has
 `rt check` compute these. With --share N one in N of the fixed cases is taken,
 others with each seed: N seeds in a row take them all.
@@ -23,6 +23,7 @@ import time
 
 sys.dont_write_bytecode = True
 
+import dtd
 import reference as ref
 from reference import (ID, IDREF, IDREFS, CDATA, START, END, TEXT, ATTRIBUTE, VALUE,
                        TABLE, BLOCK, LARGEST, Element, Text)
@@ -31,6 +32,7 @@ HERE = os.path.dirname(os.path.abspath(__file__))
 PAPER = os.path.join(os.path.dirname(os.path.dirname(HERE)), 'crates', 'paper')
 GROUP = 20               # most terms in one equation
 WEIGHT = 6000            # most tokens and bytes in one equation of several terms
+TEXTS = 20               # a byte of a DTD text takes as long as so many others
 
 OPERATIONS = {1: 'insert', 2: 'remove', 3: 'replace', 4: 'set', 5: 'drop'}
 
@@ -44,7 +46,12 @@ ALL = {0, 4, 5, 6, 7, 8, 9, 10, 11, 12, 13}
 REQUIRED = {
     'read': {0, 1, 5},
     'write': {0, 4, 5},
+    'import': {0, 2, 5, 14},
+    'names': {0, 2, 5, 14},
+    'spot': {0, 2, 14},
     'translate': {0, 1, 2, 3, 13},
+    'compare': {'no', 5, 6, 13, 16},
+    'compare, few names': {'yes', 'no'},
     'schemaOf': {0, 1, 2, 3},
     'proper': {0, 1},
     'check': {0, 4, 8, 9, 10, 11, 12, 13},
@@ -123,12 +130,15 @@ def request(operation, place, piece):
 
 SAME = '''-- How an answer of the definitions is compared with the expected one.
 use mathlib.Core.Bool.{Bool, true, false, not, _&&_}
+use mathlib.Core.Option.{Option, none, some}
 use mathlib.Core.List.{List, [], _∷_, _++_}
 use Prim.Native.Nat.{ℕ, zero, suc}
 use lib.Dec.{eqb}
 use lib.IntN.{ℤ, pos, negsuc}
 use lib.ListN.{replicate}
 use Rattle.paper.specs.Basics.{all, concat}
+use Rattle.paper.specs.Inclusion.{Compared}
+use Rattle.paper.specs.Dtd.Imported.{Spot}
 use Rattle.paper.specs.Files.{Counted}
 use Rattle.paper.specs.Schema.{Schema, Parsed, stop, ok}
 use Rattle.paper.specs.Edits.{Request, Outcome}
@@ -153,6 +163,18 @@ asked op at p = record { operation = op; place = at; piece = p }
 
 abbrev pub counts : Counted → ℕ → ℕ → List ℕ → Bool
 counts c n k b = eqb (c .number) n && eqb (c .count) k && same (c .buffer) b
+
+abbrev pub spotted : Spot → ℕ → ℕ → Bool
+spotted s n k = eqb (s .number) n && eqb (s .offset) k
+
+abbrev pub told : Compared → ℕ → ℕ → ℕ → List ℕ → Bool
+told c n t k b = eqb (c .number) n && eqb (c .takesAll) t && eqb (c .len) k && same (c .buffer) b
+
+abbrev pub sameFound : Option (List ℕ) → Option (List ℕ) → Bool
+sameFound none none = true
+sameFound none (some v) = false
+sameFound (some w) none = false
+sameFound (some w) (some v) = same w v
 
 abbrev pub answers : ℕ × ℕ → ℕ → ℕ → Bool
 answers a n p = eqb (a .0) n && eqb (a .1) p
@@ -180,11 +202,14 @@ use Prim.Native.Nat.{ℕ, zero, suc, _/_, _%_}
 use lib.Dec.{eqb}
 use lib.IntN.{ℤ, pos, negsuc}
 use lib.ListN.{replicate}
-use Rattle.cases.specs.Same.{same, sameChange, repeat, asked, counts, answers, tables, results, each, with-schema}
+use Rattle.cases.specs.Same.{same, sameChange, sameFound, repeat, asked, counts, spotted, told, answers, tables, results, each, with-schema}
 use Rattle.paper.specs.Files.{Counted, read, write}
 use Rattle.paper.specs.Schema.{Schema, Parsed, stop, ok, schemaOf, refusalOf}
 use Rattle.paper.specs.Table.{tableOf, translate, proper}
-use Rattle.paper.specs.Rules.{ofSchema}
+use Rattle.paper.specs.Rules.{ofSchema, ofTable}
+use Rattle.paper.specs.Inclusion.{Compared, lost, shortestOf, compare}
+use Rattle.paper.specs.Dtd.Reading.{reading}
+use Rattle.paper.specs.Dtd.Imported.{Spot, declared, import, names, spot}
 use Rattle.paper.specs.Judgement.{checking, check}
 use Rattle.paper.specs.Edits.{Request, Outcome, outcome, editBy, edit}
 use Rattle.paper.specs.Program.{printed}
@@ -749,6 +774,43 @@ def write_case(tokens, buffer):
                 told(call='write', tokens=tokens, buffer=buffer, expected=(number, count, after)))
 
 
+def text_case(text, file_room, names_room):
+    """A DTD text by its three calls, each with a buffer of so many places."""
+    terms, expected = [], []
+    for name, by_second, room in (('import', dtd.import_dtd, file_room), ('names', dtd.dtd_names, names_room)):
+        buffer = [99] * room
+        number, count, after = by_second(text, buffer)
+        expected.append((number, count, after))
+        call = '%s %s %s' % (name, term(text), term(buffer))
+        probes = [('number', '(%s) .number' % call, 5), ('count', '(%s) .count' % call, 15),
+                  ('buffer as expected', 'same ((%s) .buffer) %s' % (call, term(after)), None)]
+        terms.append(Term(name, number, 'counts (%s) %d %d %s' % (call, number, count, term(after)), TEXTS * len(text), probes))
+    number, offset = dtd.import_spot(text)
+    expected.append((number, offset))
+    call = 'spot %s' % term(text)
+    probes = [('number', '(%s) .number' % call, 5), ('offset', '(%s) .offset' % call, 16)]
+    terms.append(Term('spot', number, 'spotted (%s) %d %d' % (call, number, offset), TEXTS * len(text), probes))
+    return Case(terms, told(call='import, names, spot', text=text, rooms=(file_room, names_room), expected=expected))
+
+
+def compare_case(old, new, element, room):
+    """Two tables, or lists that are none. Where nothing is lost the definition
+    tries all sequences: those of at most three names are compared then."""
+    number, takes_all, length, after = ref.compare(old, new, element, [99] * room)
+    call = 'compare %s %s %d %s' % (term(old), term(new), element, term([99] * room))
+    terms = []
+    if not takes_all:
+        label = number if number else 'no'
+        terms.append(Term('compare', label, 'told (%s) %d 0 %d %s' % (call, number, length, term(after)), 1000,
+                          [('number', '(%s) .number' % call, 5), ('length', '(%s) .len' % call, 13)]))
+    if number == 0 and (takes_all or length < 4):
+        found = 'none' if takes_all else '(some %s)' % term(after[:length])
+        few = 'shortestOf 4 %d (lost (ofTable %s) (ofTable %s) %d)' % (old[0], term(old), term(new), element)
+        terms.append(Term('compare, few names', 'yes' if takes_all else 'no', 'sameFound (%s) %s' % (few, found), 1000))
+    return Case(terms, told(call='compare', old=term(old), new=term(new), element=element, room=room,
+                            expected=(number, takes_all, after[:length])))
+
+
 def translate_case(file, table):
     number, after = ref.translate(file, table)
     call = 'translate %s %s' % (term(file), term(table))
@@ -978,6 +1040,64 @@ class Cases:
     def missing(self):
         return [(call, number) for call, numbers in REQUIRED.items() for number in sorted(numbers, key=str)
                 if number not in self.counts.get(call, {})]
+
+    # -- DTD texts and comparisons
+
+    def text(self, wanted=None):
+        r = self.r
+        while True:
+            text = dtd.sound(r)[0] if self.make.chance(0.6) else dtd.misled(r)
+            if self.make.chance(0.3) and len(text) < 400:
+                text = r.choice(list(dtd.damages(r, text)))
+            number = dtd.import_spot(text)[0]
+            if len(text) <= 250 and (wanted in (None, number) or wanted == 5 and number == 0):
+                break
+        rooms = []
+        for made in (dtd.import_dtd, dtd.dtd_names):
+            length = made(text, [0] * 500)[1]
+            rooms.append(max(0, length + (-1 if wanted == 5 else r.choice([-1, 0, 0, 2]))))
+        self.add(text_case(text, *rooms))
+
+    def texts(self):
+        """Those at the limits that the definitions compute in seconds."""
+        for text, _, _ in dtd.limits():
+            if len(text) < 1100 and b'ATTLIST' not in text:
+                file, names = (made(text, [0] * 2000)[1] for made in (dtd.import_dtd, dtd.dtd_names))
+                self.in_turn(text_case(text, file + 1, names))
+
+    def comparison(self, wanted=None):
+        """Of an element with two models of three names, or of a refusal."""
+        r = self.r
+        while True:
+            def table(e):
+                out = [e, 0] + [2] + self.symbols(r.randrange(4), e) + [0]
+                out += [number for _ in range(e - 1) for number in (r.choice([0, 0, 1]), 0)]
+                return ref.translate(ref.file_of(out), [0] * TABLE)
+            old, new = table(3), table(r.choice([2, 3, 3, 3]))
+            if old[0] or new[0]:
+                continue
+            old, new = old[1], new[1]
+            element = r.choice([0, 0, 0, 0, 1, 2, 3])
+            room = ref.SEQUENCE - self.make.chance(0.1)
+            if self.make.chance(0.1):
+                r.choice([old, new])[6 + r.randrange(100)] = 77
+            number, takes_all, length, _ = ref.compare(old, new, element, [99] * room)
+            label = number or ('yes' if takes_all else 'no')
+            if length < 4 and wanted in (None, label):
+                return self.add(compare_case(old, new, element, room))
+
+    def symbols(self, depth, e):
+        """A count of symbols and the symbols of a model."""
+        r = self.r
+
+        def tree(depth):
+            if depth == 0 or self.make.chance(0.2):
+                return [5 + r.randrange(e)]
+            operator = r.randrange(5)
+            return [operator] + tree(depth - 1) + (tree(depth - 1) if operator < 2 else [])
+
+        symbols = tree(depth)
+        return [len(symbols)] + symbols
 
     # -- calls without a document
 
@@ -1292,6 +1412,7 @@ class Cases:
     def build(self, count):
         r = self.r
         self.large()
+        self.texts()
         self.fixed = self.total
         for k in range(max(6, count // 40)):
             self.new_context()
@@ -1308,6 +1429,10 @@ class Cases:
                 continue
             if call in ('read', 'write', 'translate', 'proper', 'printed'):
                 getattr(self, call)(number)
+            elif call in ('import', 'names', 'spot'):
+                self.text(number)
+            elif call.startswith('compare'):
+                self.comparison(number)
             elif call == 'schemaOf':
                 self.translate(number)
             elif call in ('check', 'checking'):
@@ -1321,7 +1446,8 @@ class Cases:
                     self.edit(None, number)
             else:
                 self.edit(operations[call.split()[1]], number)
-        ways = [(self.read, 5), (self.write, 4), (self.translate, 11), (self.proper, 5), (self.printed, 5)]
+        ways = [(self.read, 5), (self.write, 4), (self.translate, 11), (self.proper, 5), (self.printed, 5),
+                (self.comparison, 5)]
         checks = sorted(REQUIRED['check'])
         pairs = [(op, number) for op, name in OPERATIONS.items() for number in sorted(REQUIRED['editBy ' + name])]
         ways += [(lambda: self.check(), 4), (lambda: self.check(r.choice(checks)), 10),
@@ -1332,6 +1458,8 @@ class Cases:
         makers = [way for way, weight in ways for _ in range(weight)]
         while self.total - self.fixed < count:
             r.choice(makers)()
+        for _ in range(count // 4):
+            self.text()
 
 
 # ------------------------------------------------------- the scratch check
@@ -1379,7 +1507,7 @@ def declared(name, context, holds):
         left = 'with-schema (schemaOf file) (λ s.\n    %s)' % lines
     else:
         left = 'each (\n    %s)' % lines
-    return '\n%s : %s ≡ true\nunfolding all-open\n%s = refl\n' % (name, left, name)
+    return '\n%s : %s ≡ true\nunfolding all-open reading declared import names spot\n%s = refl\n' % (name, left, name)
 
 
 class Unchecked(Exception):

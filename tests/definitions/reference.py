@@ -18,6 +18,7 @@ DEPTH = 64               # most elements inside one another
 TABLE = 6626             # numbers of a table
 BLOCK = 138              # numbers of one element in a table
 FILE = 65536             # most bytes of a file of the edit program
+SEQUENCE = 4290          # fewest places for a lost sequence
 
 START, END, TEXT, ATTRIBUTE, VALUE = 1, 2, 3, 4, 5
 CDATA, ID, IDREF, IDREFS = 0, 1, 2, 3
@@ -179,6 +180,7 @@ class Model:
         self.tree = tree
         self.names = names
         self.known = {}
+        self.hope = {}
 
     def steps(self, rest):
         """All (occurrence, rest after it) that can come next."""
@@ -256,6 +258,17 @@ class Model:
                     growing = True
         return good
 
+    def hopes(self, rests):
+        """Whether a full match can still be reached: what was met begins one."""
+        if rests not in self.hope:
+            queue = [rests]
+            for one in queue:
+                if self.full(one):
+                    break
+                queue.extend(after for after in self.next(one).values() if after not in queue)
+            self.hope[rests] = self.full(one)        # the last one looked at
+        return self.hope[rests]
+
     def ambiguous(self):
         """Some run can be continued, each time towards a full match, by two
         different occurrences of one name."""
@@ -266,13 +279,17 @@ class Model:
                 return True
         return False
 
+    def after(self, rests, child):
+        """The rests after one more name."""
+        return frozenset(after for rest in rests
+                         for occurrence, after in self.steps(rest)
+                         if occurrence.name == child)
+
     def describes(self, children):
         """Whether the expression describes this sequence of names."""
         rests = self.begin()
         for child in children:
-            rests = frozenset(after for rest in rests
-                              for occurrence, after in self.steps(rest)
-                              if occurrence.name == child)
+            rests = self.after(rests, child)
         return self.full(rests)
 
 
@@ -286,6 +303,9 @@ class Declared:
         self.kind = kind
         self.attributes = attributes
         self.model = model
+
+    def content(self):
+        return (NoChild(), OneText(), self.model)[self.kind]
 
 
 class Schema:
@@ -451,14 +471,59 @@ class Run:
     def __init__(self, block):
         self.block = block
 
-    def describes(self, children):
+    def begin(self):
+        """Where the empty run stands; other runs stand at occurrences."""
+        return frozenset([None])
+
+    def after(self, standing, child):
+        """Where a run stands after one more name; nowhere, if it cannot go on."""
         block = self.block
-        if not children:
-            return block.none == 1
-        standing = {k for k in block.first if block.names[k] == children[0]}
-        for child in children[1:]:
-            standing = {k for s in standing for k in block.follow[s] if block.names[k] == child}
-        return bool(standing & block.last)
+        return frozenset(k for s in standing for k in (block.first if s is None else block.follow[s])
+                         if block.names[k] == child)
+
+    def full(self, standing):
+        """Whether the run may end."""
+        return any(self.block.none == 1 if s is None else s in self.block.last for s in standing)
+
+    def hopes(self, standing):
+        """Whether there was a next occurrence; not whether the run can ever end."""
+        return bool(standing)
+
+    def describes(self, children):
+        standing = self.begin()
+        for child in children:
+            standing = self.after(standing, child)
+        return self.full(standing)
+
+
+class NoChild:
+    """EMPTY takes the empty sequence alone."""
+
+    def begin(self):
+        return frozenset([()])
+
+    def after(self, rests, child):
+        return frozenset()
+
+    def full(self, rests):
+        return bool(rests)
+
+    hopes = full
+
+
+class OneText:
+    """Text only: no text or one, None standing for a text."""
+
+    def begin(self):
+        return frozenset([(None,), ()])
+
+    def after(self, rests, child):
+        return frozenset(rest[1:] for rest in rests if rest[:1] == (child,))
+
+    def full(self, rests):
+        return () in rests
+
+    hopes = full
 
 
 def rules_of(table):
@@ -636,16 +701,16 @@ def judge_element(rules, element):
     for number, (_, required) in declared.attributes.items():
         if required and number not in element.attributes:
             raise Refused(8, element.place)
-    names = [c.name for c in element.children if isinstance(c, Element)]
-    texts = len(element.children) - len(names)
-    if declared.kind == 0:
-        fits = not names and texts == 0
-    elif declared.kind == 1:
-        fits = not names and texts <= 1      # item 1: no text or one
-    else:
-        fits = texts == 0 and declared.model.describes(names)
-    if not fits:
-        raise Refused(9, element.place)
+    # item 3: the first child or text at which no valid content can begin that
+    # way, or the end token
+    content = declared.content()
+    rests = content.begin()
+    for child in element.children:
+        rests = content.after(rests, child.name if isinstance(child, Element) else None)
+        if not content.hopes(rests):
+            raise Refused(9, child.place)
+    if not content.full(rests):
+        raise Refused(9, element.end)
 
 
 def check_by_schema(schema, buffer, used):
@@ -785,6 +850,51 @@ def edit(table, buffer, used, operation, place, piece):
     return edit_by_schema(rules_of(table), buffer, used, operation, place, piece)
 
 
+# ---------------------------------------------------------------- compare
+
+def lost(old, new, names):
+    """The shortest sequence of names that the old content takes and the new one
+    doesn't, of equals the lowest from the left; None if there is none."""
+    begin = old.begin(), new.begin()
+    met = {begin}
+    level = {begin: ()}      # what is met with so many names and not with fewer: the lowest sequence there
+    while level:
+        for (one, two), sequence in level.items():
+            if old.full(one) and not new.full(two):
+                return sequence
+        longer = {}
+        for (one, two), sequence in level.items():
+            for name in range(names):
+                pair = old.after(one, name), new.after(two, name)
+                if pair[0] and pair not in met:
+                    met.add(pair)
+                    longer[pair] = sequence + (name,)
+        level = longer
+    return None
+
+
+def compare_by_schema(old, new, element, buffer):
+    """(number, whether all is taken, length of the sequence, buffer after)"""
+    if element >= len(old.elements) or element >= len(new.elements):
+        return 6, 0, 0, list(buffer)
+    declared = [schema.elements[element] for schema in (old, new)]
+    if any(one.kind not in (0, 2) for one in declared):
+        return 16, 0, 0, list(buffer)
+    if len(buffer) < SEQUENCE:
+        return 5, 0, 0, list(buffer)
+    sequence = lost(declared[0].content(), declared[1].content(), len(old.elements))
+    if sequence is None:
+        return 0, 1, 0, list(buffer)
+    return 0, 0, len(sequence), list(sequence) + list(buffer[len(sequence):])
+
+
+def compare(old_table, new_table, element, buffer):
+    """(number, whether all is taken, length of the sequence, buffer after)"""
+    if not proper(old_table) or not proper(new_table):
+        return 13, 0, 0, list(buffer)
+    return compare_by_schema(rules_of(old_table), rules_of(new_table), element, buffer)
+
+
 # ---------------------------------------------------------------- program
 
 def program(schema_file, doc_file, edits_file):
@@ -902,34 +1012,43 @@ def self_test():
             same(set(got[4][wanted[1]:15]) <= {0}, True)
             same(check(table, got[4], got[2]), (0, 0))
 
-    try_edit(2, 3, [], (9, 0))
+    try_edit(2, 3, [], (9, 3))
     try_edit(2, 10, [], (0, 11))
     try_edit(2, 7, [], (0, 14))
     try_edit(1, 10, [9, 12, 165, 2], (11, 12))
     try_edit(1, 10, [9, 12, 173, 2], (0, 19))
-    try_edit(1, 3, [25, 20, 165, 2], (9, 0))
+    try_edit(1, 3, [25, 20, 165, 2], (9, 3))
     try_edit(1, 10, [25, 20, 165, 2], (0, 19))
     try_edit(3, 3, [9, 12, 173, 2], (12, 9))
     try_edit(5, 3, [12], (8, 3))
     for place in (0, 1, 15):
         try_edit(1, place, [25, 20, 165, 2], (6, 0))
     try_edit(1, 14, [25, 20, 165, 2], (0, 19))
-    try_edit(1, 14, [9, 12, 173, 2], (9, 0))
+    try_edit(1, 14, [9, 12, 173, 2], (9, 14))
 
     # a row: no text or one, and no child (item 1)
-    try_edit(1, 7, [251], (9, 6))
-    try_edit(1, 8, [251], (9, 6))
-    try_edit(1, 8, [25, 20, 165, 2], (9, 6))
-    try_edit(3, 7, [25, 20, 165, 2], (9, 6))
+    try_edit(1, 7, [251], (9, 8))
+    try_edit(1, 8, [251], (9, 8))
+    try_edit(1, 7, [25, 20, 165, 2], (9, 7))
+    try_edit(1, 8, [25, 20, 165, 2], (9, 8))
+    try_edit(3, 7, [25, 20, 165, 2], (9, 7))
     try_edit(1, 9, [17, 2], (0, 17))
     try_edit(1, 9, [17, 243, 2], (0, 18))
-    try_edit(1, 9, [17, 243, 243, 2], (9, 9))
-    try_edit(1, 9, [17, 25, 20, 165, 2, 2], (9, 9))
-    try_edit(1, 13, [243], (9, 10))
+    try_edit(1, 9, [17, 243, 243, 2], (9, 11))
+    try_edit(1, 9, [17, 25, 20, 165, 2, 2], (9, 10))
+    try_edit(1, 13, [243], (9, 13))
+
+    # where content stops (item 3)
+    try_edit(1, 10, [243], (9, 10))
+    try_edit(1, 14, [243], (9, 14))
+    try_edit(1, 14, [1, 4, 61, 9, 12, 173, 2, 2], (9, 14))
+    same(check(table, [1, 4, 61, 2], 4), (9, 3))
+    same(check(table, [1, 4, 61, 9, 12, 165, 2, 81, 2, 25, 20, 165, 2, 2], 14), (9, 7))
+    same(check(table, [1, 4, 61, 9, 12, 165, 9, 2, 2, 81, 2, 2], 12), (9, 9))
 
     edits = [2, 3, 0, 1, 10, 4, 9, 12, 173, 2, 3, 3, 4, 9, 12, 173, 2, 2, 14, 0, 2, 3, 0]
     files = [file_of(SHADE), file_of(SHADE_DOC), file_of(edits)]
-    lines = b'0 0 0 15\n1 9 0 15\n2 0 0 19\n3 11 9 19\n4 0 0 15\n5 0 0 8\n'
+    lines = b'0 0 0 15\n1 9 3 15\n2 0 0 19\n3 11 9 19\n4 0 0 15\n5 0 0 8\n'
     same(program(*files), lines)
     same(program(files[0], files[1], files[2] + [2]), lines + b'stop 1\n')
     same(program(files[0], files[1], files[2] + file_of([1, 1, 8193])), lines + b'stop 5\n')
@@ -948,7 +1067,8 @@ def self_test():
     same(top[2 + 74 + 62], 1 << 63)
     many = [1] + [9, 2] * 64 + [2]
     same(check(top, many, 130), (0, 0))
-    same(check(top, many[:-3] + [2], 128), (9, 0))
+    same(check(top, many[:-3] + [2], 128), (9, 127))
+    same(check(top, many[:-1] + [9, 2, 2], 132), (9, 129))
 
     # depth
     nest = translate(file_of([1, 0, 2, 2, 2, 5, 0]), [0] * TABLE)[1]
@@ -970,6 +1090,35 @@ def self_test():
         left = chance.randrange(1, size - 1)
         return [chance.randrange(2)] + random_symbols(left) + random_symbols(size - 1 - left)
 
+    def stops(file, table, word, plain):
+        """A root with these children, and perhaps a text among them: where its
+        content stops, by the list of words."""
+        children = list(word)
+        if chance.random() < 0.3:
+            children.insert(chance.randrange(len(children) + 1), None)
+        tokens = [1]
+        place = None
+        for k, child in enumerate(children):
+            if place is None and not any(w[:k + 1] == tuple(children[:k + 1]) for w in plain):
+                place = len(tokens)
+            tokens += [11] if child is None else [8 * child + 1, 2]
+        tokens.append(2)
+        if place is None and tuple(children) not in plain:
+            place = len(tokens) - 1
+        if place is not None:
+            same(check(table, tokens, len(tokens)), (9, place))
+            same(check_by_schema(schema_of(file), tokens, len(tokens)), (9, place))
+
+    def compared(old, new, element=0, room=SEQUENCE):
+        """The answer for two files of schemas: by their tables, which is that
+        by their expressions."""
+        old, new = file_of(old), file_of(new)
+        buffer = [7] * room
+        got = compare(translate(old, [0] * TABLE)[1], translate(new, [0] * TABLE)[1], element, buffer)
+        same(compare_by_schema(schema_of(old), schema_of(new), element, buffer), got)
+        same(got[3][got[2]:], [7] * (room - got[2]))
+        return got[:2] + (got[3][:got[2]],)
+
     def spelled(tree, most):
         """All runs of at most `most` occurrences that match."""
         if isinstance(tree, Name):
@@ -989,6 +1138,7 @@ def self_test():
                 return all_
             all_ = more
 
+    unambiguous = []
     for _ in range(400):
         symbols = random_symbols(chance.randrange(1, 8))
         tree, names = expression(symbols)
@@ -1012,8 +1162,87 @@ def self_test():
                 same(model.describes(word), word in plain)
                 if number == 0:
                     same(rules_of(table).elements[0].model.describes(word), word in plain)
+                    if chance.random() < 0.06:
+                        stops(file, table, word, plain)
         if number == 0:
             same(proper(table), True)
+            unambiguous.append((symbols, plain))
+
+    # what the new schema takes of the old patterns
+    def one_model(symbols):
+        return [3, 0, 2, len(symbols)] + symbols + [0, 0, 0, 1, 0]
+
+    same(compared(one_model([5]), one_model([5])), (0, 1, []))
+    same(compared(one_model([3, 6]), one_model([4, 6])), (0, 0, []))
+    same(compared(one_model([4, 6]), one_model([3, 6])), (0, 1, []))
+    same(compared(one_model([3, 1, 5, 6]), one_model([3, 5])), (0, 0, [1]))
+    same(compared(one_model([1, 7, 6]), one_model([5])), (0, 0, [1]))
+    same(compared(one_model([2, 7]), [2, 0, 2, 2, 2, 6, 0, 0, 0]), (0, 0, [2]))
+    same(compared(one_model([2, 7]), [1, 0, 0, 0]), (0, 0, [2]))
+    same(compared([1, 0, 0, 0], one_model([2, 7])), (0, 1, []))
+    same(compared([1, 0, 0, 0], one_model([7])), (0, 0, []))
+    same(compared(one_model([5]), one_model([5]), room=SEQUENCE - 1), (5, 0, []))
+    same(compared(one_model([5]), one_model([5]), 2, 0), (16, 0, []))
+    same(compared(one_model([5]), [1, 0, 0, 0], 1, 0), (6, 0, []))
+    same(compared(one_model([5]), one_model([5]), 3, 0), (6, 0, []))
+    same(compare(table[:-1], table, 9, []), (13, 0, 0, []))
+    same(compare(table, [0] * TABLE, 9, []), (13, 0, 0, []))
+
+    def listed(old, new, most):
+        """The first lost sequence when all of them are listed in order."""
+        for length in range(most + 1):
+            for word in itertools.product(range(3), repeat=length):
+                if old(word) and not new(word):
+                    return list(word)
+        return None
+
+    def in_order(got, first, most):
+        """A lost sequence is the first one listed, if it is short enough."""
+        number, takes_all, sequence = got
+        same(number, 0)
+        if first is not None:
+            same((takes_all, sequence), (0, first))
+        else:
+            same(takes_all == 1 or len(sequence) > most, True)
+
+    for _ in range(500):
+        (one, ones), (two, twos) = chance.choice(unambiguous), chance.choice(unambiguous)
+        in_order(compared(one_model(one), one_model(two)), listed(ones.__contains__, twos.__contains__, 6), 6)
+
+    # tables that no schema gives
+    def random_table():
+        n = chance.randrange(1, 6)
+        names = [chance.randrange(3) for _ in range(n)]
+
+        def one_each():
+            chosen = {names[k]: k for k in chance.sample(range(n), n) if chance.random() < 0.7}
+            return _bits(chosen.values())
+
+        numbers = [3, 0, 2] + [0] * 5 + [n, chance.randrange(2), one_each(), chance.randrange(1 << n)]
+        numbers += names + [0] * (64 - n) + [one_each() for _ in names]
+        return numbers + [0] * (TABLE - len(numbers))
+
+    for _ in range(300):
+        one, two = random_table(), random_table()
+        if chance.random() < 0.5:
+            two = list(one)
+            two[2 + 9] ^= 1 << chance.randrange(one[2 + 6])
+        same(proper(two), True)
+        number, takes_all, length, after = compare(one, two, 0, [7] * SEQUENCE)
+        runs = [rules_of(one).elements[0].model, rules_of(two).elements[0].model]
+        in_order((number, takes_all, after[:length]), listed(runs[0].describes, runs[1].describes, 4), 4)
+    for old_n, new_n in ((64, 63), (63, 64), (64, 64), (5, 7)):
+        # cycles of one name, in tables that no schema gives: the sequence may be long
+        numbers = [1, 0, 2] + [0] * 5 + [old_n, 0, 1, 1 << old_n - 1] + [0] * 64
+        numbers += [1 << (k + 1) % old_n for k in range(old_n)]
+        old = numbers + [0] * (TABLE - len(numbers))
+        numbers = [1, 0, 2] + [0] * 5 + [new_n, 0, 1, (1 << new_n) - 1 - (1 << new_n - 2)] + [0] * 64
+        numbers += [1 << (k + 1) % new_n for k in range(new_n)]
+        new = numbers + [0] * (TABLE - len(numbers))
+        wanted = [m for m in range(old_n, 5000, old_n) if (m - 1) % new_n == new_n - 2][:1]
+        got = compare(old, new, 0, [7] * 5000)
+        same(got[:3], (0, int(not wanted), sum(wanted)))
+        same(got[3], [0] * got[2] + [7] * (5000 - got[2]))
     print('self test: %d comparisons, all equal' % done[0])
 
 

@@ -35,10 +35,21 @@ pub struct Compared {
     pub length: u32,
 }
 
+/// `shrike_spot`
+#[repr(C)]
+#[derive(Clone, Copy, Debug, PartialEq, Eq)]
+pub struct Spot {
+    pub number: u32,
+    pub offset: u64,
+}
+
 extern "C" {
     pub fn shrike_version() -> u32;
     pub fn shrike_read(file: *const u8, file_len: usize, tokens: *mut u32, room: usize) -> Count;
     pub fn shrike_write(tokens: *const u32, n: usize, file: *mut u8, room: usize) -> Count;
+    pub fn shrike_import(text: *const u8, n: usize, file: *mut u8, room: usize) -> Count;
+    pub fn shrike_names(text: *const u8, n: usize, names: *mut u8, room: usize) -> Count;
+    pub fn shrike_import_spot(text: *const u8, n: usize) -> Spot;
     pub fn shrike_translate(file: *const u8, file_len: usize, table: *mut u64, words: usize) -> u32;
     pub fn shrike_check(table: *const u64, words: usize, doc: *const u32, room: usize, used: u64) -> Verdict;
     pub fn shrike_edit(

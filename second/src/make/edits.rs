@@ -136,21 +136,14 @@ fn item_for(random: &mut Random, ground: &Ground, root: &mut Element, spot: &Spo
     let at = at.min(parent.content.len());
     for _ in 0..4 {
         let name = *random.pick(&names);
-        let mut children: Vec<u16> = parent.content[..at].iter().filter_map(name_of).collect();
-        children.push(name);
-        children.extend(parent.content[at + usize::from(replace)..].iter().filter_map(name_of));
-        if declaration.holds(0, &children) {
+        let mut items: Vec<Option<u16>> = parent.content[..at].iter().map(Item::name).collect();
+        items.push(Some(name));
+        items.extend(parent.content[at + usize::from(replace)..].iter().map(Item::name));
+        if declaration.stop(&items).is_none() {
             return (Some(name), true);
         }
     }
     (Some(*random.pick(&names)), false)
-}
-
-fn name_of(item: &Item) -> Option<u16> {
-    match item {
-        Item::Element(element) => Some(element.name),
-        Item::Text(_) => None,
-    }
 }
 
 /// Whether the parent may do without the item at a spot.
@@ -164,9 +157,7 @@ fn can_go(ground: &Ground, root: &mut Element, spot: &Spot) -> bool {
     };
     let parent = element_at(root, above).expect("an element holds the item");
     parent.content.remove(*at);
-    let children: Vec<u16> = parent.children().map(|child| child.name).collect();
-    let texts = parent.content.len() - children.len();
-    ground.grammar.declaration(parent.name).map_or(true, |declaration| declaration.holds(texts, &children))
+    ground.grammar.declaration(parent.name).map_or(true, |declaration| declaration.stop(&parent.items()).is_none())
 }
 
 /// Gives a set or a drop its piece; true if there is something to set or drop.

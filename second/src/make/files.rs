@@ -25,7 +25,7 @@ fn count(random: &mut Random) -> usize {
 }
 
 /// Room around what is needed.
-fn room(random: &mut Random, needed: usize) -> usize {
+pub fn room(random: &mut Random, needed: usize) -> usize {
     match random.below(8) {
         0 => 0,
         1 => needed.saturating_sub(1),

@@ -3,15 +3,16 @@
 
 use super::documents::{self, Ground, Scale};
 use super::sizes::Sizes;
-use super::{edits, faults, files, programs, schemas, tables};
+use super::{bad_texts, compares, edits, faults, files, programs, schemas, tables, texts};
 use crate::case::{Case, Memory, Outcome, Said, Table};
+use crate::paper::compare::LEAST_ROOM;
 use crate::paper::table::WORDS;
-use crate::paper::tree;
+use crate::paper::{dtd, tree};
 use crate::random::Random;
 use std::rc::Rc;
 
 /// Slots of a group, and how many of them, the last ones, are runs of the edit program.
-pub const SLOTS: u64 = 64;
+pub const SLOTS: u64 = 76;
 pub const PROGRAM_SLOTS: u64 = 4;
 
 /// A table with what is needed to grow documents for it.
@@ -40,6 +41,7 @@ struct Run {
 }
 
 pub struct Group {
+    number: usize,
     schema: Base,
     drawn: Base,
     scale: Scale,
@@ -54,7 +56,7 @@ impl Group {
         let drawn = Base::new(Table::of_words(tables::proper(&mut random))).expect("a table drawn to be proper");
         let scale = Scale::draw(&mut random);
         let run = Run { buffer: Vec::new(), used: 0, edits_left: 0 };
-        Group { schema, drawn, scale, run, run_is_drawn: false }
+        Group { number: number as usize, schema, drawn, scale, run, run_is_drawn: false }
     }
 
     /// The case of a slot; `random` is its own. `programs` counts the groups before this one that ran the edit program.
@@ -72,7 +74,9 @@ impl Group {
                 Case::Write { tokens, buffer }
             }
             12..=25 => self.check(random),
-            _ if slot < programs_from => self.edit(random),
+            26..=59 => self.edit(random),
+            60..=67 => self.text(random, slot - 60),
+            _ if slot < programs_from => self.compare(random),
             _ => {
                 let way = (programs * PROGRAM_SLOTS + slot - programs_from) as usize;
                 Case::Program(self.program(random, way % programs::WAYS))
@@ -104,6 +108,74 @@ impl Group {
             _ => WORDS,
         };
         Case::Translate { file, buffer: old_words(random, length) }
+    }
+
+    /// A DTD text: sound, ambiguous, damaged, with a slip, misled, the small shade damaged at the group's byte, at the group's limit.
+    fn text(&self, random: &mut Random, way: u64) -> Case {
+        let mut spelled = texts::spelled(random, self.schema.ground().grammar);
+        if way == 2 && random.chance(50) {
+            let drawn = schemas::drawn_models(random, self.schema.ground().grammar);
+            spelled = texts::spelled(random, &drawn);
+        }
+        let mut text = match way {
+            4 => bad_texts::slip(random, &spelled.text()),
+            5 => bad_texts::misled(random, spelled),
+            6 => bad_texts::SHADE.as_bytes().to_vec(),
+            7 => bad_texts::at_limit(random, self.number % bad_texts::LIMITS),
+            _ => spelled.text(),
+        };
+        if [3, 6].contains(&way) {
+            let at = if way == 6 { self.number % (text.len() + 1) } else { random.below(text.len() + 1) };
+            bad_texts::damage(random, &mut text, at);
+        }
+        let call = if way < 3 { way as usize } else { *random.pick(&[0, 1, 3]) };
+        let needed = |made: Result<Vec<u8>, u32>| made.map_or(20, |bytes| bytes.len());
+        match call {
+            0 => {
+                let room = files::room(random, needed(dtd::import(&text, usize::MAX)));
+                Case::Import { text, buffer: files::old_bytes(random, room) }
+            }
+            1 => {
+                let room = files::room(random, needed(dtd::names(&text, usize::MAX)));
+                Case::Names { text, buffer: files::old_bytes(random, room) }
+            }
+            2 => Case::Imported { text, buffer: old_words(random, WORDS) },
+            _ => Case::Spot { text },
+        }
+    }
+
+    /// An element's content in two tables.
+    fn compare(&self, random: &mut Random) -> Case {
+        let base = if random.chance(70) { &self.schema } else { &self.drawn };
+        let mut element = compares::element(random, base.ground().grammar);
+        let one = Rc::clone(&base.table);
+        let (mut old, mut new) = match random.below(12) {
+            0 => (Rc::clone(&one), one),
+            1 => (one, Rc::clone(&self.drawn.table)),
+            2 => {
+                element = 0;
+                let (old, new) = compares::cycles(random);
+                (Rc::new(old), Rc::new(new))
+            }
+            3 => (lent_table(random, base), lent_table(random, base)),
+            _ => match &one.schema {
+                Some(file) => (Rc::clone(&one), Rc::new(compares::altered(random, file, element))),
+                None => (Rc::clone(&one), Rc::new(compares::other_runs(random, &one.words, element))),
+            },
+        };
+        if random.chance(30) {
+            std::mem::swap(&mut old, &mut new);
+        }
+        if random.chance(6) {
+            let improper = lent_changed(random, base);
+            *if random.chance(50) { &mut old } else { &mut new } = improper;
+        }
+        let room = match random.below(12) {
+            0 => *random.pick(&[0, 1, LEAST_ROOM - 2, LEAST_ROOM - 1]),
+            1 => LEAST_ROOM + random.within(1, 900),
+            _ => LEAST_ROOM,
+        };
+        Case::Compare { old, new, element, buffer: files::old_tokens(random, room) }
     }
 
     fn check(&self, random: &mut Random) -> Case {
@@ -143,6 +215,10 @@ fn lent_table(random: &mut Random, base: &Base) -> Rc<Table> {
     if random.chance(93) {
         return Rc::clone(&base.table);
     }
+    lent_changed(random, base)
+}
+
+fn lent_changed(random: &mut Random, base: &Base) -> Rc<Table> {
     let mut words = base.table.words.clone();
     match random.chance(80) {
         true => tables::change_word(random, &mut words),

@@ -1,5 +1,7 @@
 //! Makers of random cases.
 
+pub mod bad_texts;
+pub mod compares;
 pub mod documents;
 pub mod edits;
 pub mod expressions;
@@ -12,3 +14,4 @@ pub mod programs;
 pub mod schemas;
 pub mod sizes;
 pub mod tables;
+pub mod texts;

@@ -166,7 +166,7 @@ pub fn damaged(random: &mut Random, grammar: &Grammar) -> Vec<u8> {
     let mut file = schema_file::numbers_of(grammar);
     match random.below(9) {
         0 => return noise(random),
-        1 | 2 => return numbers::file_of(&drawn_models(random, grammar)),
+        1 | 2 => return numbers::file_of(&schema_file::numbers_of(&drawn_models(random, grammar))),
         3 => return over_a_limit(random),
         4 => {
             let mut bytes = numbers::file_of(&file);
@@ -199,7 +199,7 @@ fn noise(random: &mut Random) -> Vec<u8> {
 }
 
 /// The schema with other models, drawn without asking whether they are ambiguous.
-fn drawn_models(random: &mut Random, grammar: &Grammar) -> Vec<u32> {
+pub fn drawn_models(random: &mut Random, grammar: &Grammar) -> Grammar {
     let names: Vec<u16> = (0..grammar.elements.len().min(4) as u16).collect();
     let mut drawn = Grammar { root: grammar.root, elements: Vec::new() };
     for _ in &grammar.elements {
@@ -208,7 +208,7 @@ fn drawn_models(random: &mut Random, grammar: &Grammar) -> Vec<u32> {
         let expression = expressions::any(random, leaves, &names, unary);
         drawn.elements.push(Declaration { content: Content::Model(Model::new(expression)), attributes: attributes(random, false) });
     }
-    schema_file::numbers_of(&drawn)
+    drawn
 }
 
 /// A file of one element that is at a limit or one past it.

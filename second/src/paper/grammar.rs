@@ -56,8 +56,18 @@ impl Model {
         Model { expression, matcher }
     }
 
-    pub fn describes(&self, children: &[u16]) -> bool {
-        self.matcher.borrow_mut().matches(children)
+    /// The state after one more name, if a match goes on with it. State 0 is the begin.
+    pub fn step(&self, state: usize, name: u16) -> Option<usize> {
+        self.matcher.borrow_mut().step(state, name)
+    }
+
+    /// The names that can come next, rising.
+    pub fn names(&self, state: usize) -> Vec<u16> {
+        self.matcher.borrow_mut().letters(state)
+    }
+
+    pub fn may_end(&self, state: usize) -> bool {
+        self.matcher.borrow().may_end(state)
     }
 }
 
@@ -73,13 +83,30 @@ impl Declaration {
         self.attributes.iter().find(|attribute| attribute.number == number)
     }
 
-    /// Whether this many texts and these children are what the element may hold.
-    pub fn holds(&self, texts: usize, children: &[u16]) -> bool {
+    /// The first of these children and texts at which no content of the element can begin that way; their count, if they stop too early;
+    /// None if they are what it may hold. A child is a name, a text is None.
+    pub fn stop(&self, items: &[Option<u16>]) -> Option<usize> {
         match &self.content {
-            Content::Empty => texts == 0 && children.is_empty(),
-            Content::Text => texts <= 1 && children.is_empty(),
-            Content::Model(model) => texts == 0 && model.describes(children),
-            Content::Run(run) => texts == 0 && run.describes(children),
+            Content::Empty => (!items.is_empty()).then_some(0),
+            Content::Text => match items {
+                [] | [None] => None,
+                [None, ..] => Some(1),
+                [Some(_), ..] => Some(0),
+            },
+            Content::Model(model) => stop(items, &|state, name| model.step(state, name), &|state| model.may_end(state)),
+            Content::Run(run) => stop(items, &|state, name| run.step(state, name), &|state| run.may_end(state)),
         }
     }
+}
+
+/// The first item with which nothing goes on from the state before it; the count of all, if there may be no end.
+fn stop(items: &[Option<u16>], step: &dyn Fn(usize, u16) -> Option<usize>, may_end: &dyn Fn(usize) -> bool) -> Option<usize> {
+    let mut state = 0;
+    for (i, item) in items.iter().enumerate() {
+        match item.and_then(|name| step(state, name)) {
+            Some(next) => state = next,
+            None => return Some(i),
+        }
+    }
+    (!may_end(state)).then_some(items.len())
 }

@@ -52,9 +52,8 @@ struct Key {
 fn visit(element: &Element, grammar: &Grammar, at: &mut u32, keys: &mut Vec<Key>) -> Result<(), Verdict> {
     let declaration = grammar.declaration(element.name);
     if element.touched {
-        let number = fault(element, declaration);
-        if number != DONE {
-            return Err(Verdict { number, place: *at });
+        if let Some((number, offset)) = fault(element, declaration) {
+            return Err(Verdict { number, place: *at + offset });
         }
     }
     *at += 1;
@@ -80,10 +79,11 @@ fn visit(element: &Element, grammar: &Grammar, at: &mut u32, keys: &mut Vec<Key>
     Ok(())
 }
 
-fn fault(element: &Element, declaration: Option<&Declaration>) -> u32 {
+/// The fault of an element, and its place from the start on.
+fn fault(element: &Element, declaration: Option<&Declaration>) -> Option<(u32, u32)> {
     let declaration = match declaration {
         Some(declaration) => declaration,
-        None => return NAME,
+        None => return Some((NAME, 0)),
     };
     let each_fits = element.attributes.iter().all(|attribute| match declaration.attribute(attribute.number) {
         None => false,
@@ -92,14 +92,11 @@ fn fault(element: &Element, declaration: Option<&Declaration>) -> u32 {
     let has = |number| element.attributes.iter().any(|attribute| attribute.number == number);
     let none_lacks = declaration.attributes.iter().all(|known| !known.required || has(known.number));
     if !each_fits || !none_lacks {
-        return ATTRIBUTES;
+        return Some((ATTRIBUTES, 0));
     }
-    let children: Vec<u16> = element.children().map(|child| child.name).collect();
-    let texts = element.content.len() - children.len();
-    match declaration.holds(texts, &children) {
-        true => DONE,
-        false => CONTENT,
-    }
+    let stop = declaration.stop(&element.items())?;
+    let before = element.head_size() + element.content[..stop].iter().map(Item::size).sum::<usize>();
+    Some((CONTENT, before as u32))
 }
 
 /// The first ID met before, else the first reference to no ID.

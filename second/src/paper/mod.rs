@@ -1,6 +1,8 @@
-//! The paper, written as trees: each module is one of its sections.
+//! The paper, written as trees: each module is one of its sections, or of the requests to it.
 
+pub mod compare;
 pub mod derivatives;
+pub mod dtd;
 pub mod edits;
 pub mod expression;
 pub mod grammar;
@@ -33,4 +35,6 @@ pub mod answer {
     pub const ID_TWICE: u32 = 11;
     pub const NO_ID: u32 = 12;
     pub const TABLE: u32 = 13;
+    pub const DTD: u32 = 14;
+    pub const KIND: u32 = 16;
 }

@@ -125,18 +125,28 @@ pub struct Run {
 
 impl Run {
     pub fn describes(&self, children: &[u16]) -> bool {
-        let mut may_come = self.first;
-        let mut at = None;
-        for child in children {
-            at = bits(may_come).into_iter().find(|k| self.names[*k] == *child);
-            match at {
-                Some(k) => may_come = self.follow[k],
-                None => return false,
-            }
-        }
-        match at {
-            Some(k) => self.last >> k & 1 == 1,
-            None => self.no_child,
+        let end = children.iter().try_fold(0, |state, child| self.step(state, *child));
+        end.map_or(false, |state| self.may_end(state))
+    }
+
+    /// The state after one more name, if the run goes on with it. State 0 is the begin, state k + 1 is at occurrence k.
+    pub fn step(&self, state: usize, name: u16) -> Option<usize> {
+        let may_come = if state == 0 { self.first } else { self.follow[state - 1] };
+        bits(may_come).into_iter().find(|k| self.names[*k] == name).map(|k| k + 1)
+    }
+
+    /// The names that can come next, rising.
+    pub fn names_after(&self, state: usize) -> Vec<u16> {
+        let may_come = if state == 0 { self.first } else { self.follow[state - 1] };
+        let mut names: Vec<u16> = bits(may_come).into_iter().map(|k| self.names[k]).collect();
+        names.sort_unstable();
+        names
+    }
+
+    pub fn may_end(&self, state: usize) -> bool {
+        match state {
+            0 => self.no_child,
+            _ => self.last >> (state - 1) & 1 == 1,
         }
     }
 }

@@ -92,6 +92,11 @@ impl Element {
         })
     }
 
+    /// The content in short: the names of children, None for a text.
+    pub fn items(&self) -> Vec<Option<u16>> {
+        self.content.iter().map(Item::name).collect()
+    }
+
     /// Visits this element and all below it, by rising place.
     pub fn each(&self, visit: &mut dyn FnMut(&Element)) {
         visit(self);
@@ -134,6 +139,14 @@ impl Element {
 }
 
 impl Item {
+    /// The name of an element.
+    pub fn name(&self) -> Option<u16> {
+        match self {
+            Item::Element(element) => Some(element.name),
+            Item::Text(_) => None,
+        }
+    }
+
     pub fn size(&self) -> usize {
         match self {
             Item::Element(element) => element.size(),
