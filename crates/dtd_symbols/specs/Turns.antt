@@ -89,12 +89,12 @@ module _ (text names : List ℕ) (from i count : ℕ) (h : Held) (depths symbols
           ≡ settled (stack (h .owed) depths symbols) (h .depth) (suc (h .depth)) ((5 + numbered text names count (nameAt text i)) ∷ drop (h .at) out)
       name-step q′ = rw (sym q ∙ q′) (step-name (numbered text names count) (nameAt text i) (stateOf h depths symbols out) (getD text i 0) (sym p ∙ p′))
 
-      pub name-room : z ≡ false → (number : ℕ) → number ≡ numbered text names count (nameAt text i) → Naming h number depths symbols out
-      name-room q′ number u =
+      pub name-room : z ≡ false → (n : Name) (number : ℕ) → number ≡ numbered text names count n → Naming h number depths symbols out
+      name-room q′ n number u =
           let g = 5 + numbered text names count (nameAt text i) in
           let e = ap size (name-step q′) ∙ settled-size (stack (h .owed) depths symbols) (h .depth) (suc (h .depth)) (g ∷ drop (h .at) out) in
           let r = y .room in
-          let k = number-few text names count (nameAt text i) (y .known) in
+          let k = number-few text names count n (y .known) in
           record {
             few = omega (arith, y .few, u);
             free = omega (arith, held, e);
