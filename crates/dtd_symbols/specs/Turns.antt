@@ -6,8 +6,10 @@ use mathlib.Core.List.{List, [], _∷_}
 use Prim.Native.Nat.{ℕ, suc, _+_, _-_, _≤_, _<_}
 use native.Mathlib.Omega.{arith}
 use native.Mathlib.Numerals.{add-one}
-use lib.ListN.{length, take, drop, getD, set, length-drop, length-set, length-map}
-use lib.Seq.{take-set-le, length-take-le}
+use lib.ListN.{length, take, drop, getD, length-drop, length-map}
+use lib.Seq.{length-take-le}
+use Rattle.paper.specs.Basics.{mostElements}
+use Rattle.paper.specs.Schema.{mostSymbols}
 use Rattle.paper.specs.Dtd.Letters.{Name, isMore, same}
 use Rattle.paper.specs.Dtd.Numbering.{numberIn}
 use Rattle.dtd_names.specs.Named.{nameAt, namesAt}
@@ -21,11 +23,7 @@ use Rattle.dtd_owed.specs.Named.{Naming, Named}
 abbrev pub numbered : (text names : List ℕ) → ℕ → Name → ℕ
 numbered text names count = numberIn (namesAt text (take count names))
 
--- the step at place i of a text that is gone over as far as `from`
-abbrev pub stepAt : (Name → ℕ) → List ℕ → (from i : ℕ) → State → State
-stepAt f text from i x = step f (after (i - from) (drop from text) false) (getD text i 0) (nameAt text i) x
-
--- which is at most their count
+-- so a number is at most their count
 number-most : (l : List Name) (n : Name) → numberIn l n ≤ length l
 number-most [] n = omega arith
 number-most (m ∷ l) n = by (same n m) (number-most l n)
@@ -39,20 +37,24 @@ number-few text names count n h =
     let k = number-most (namesAt text (take count names)) n in
     omega (arith, k, length-map (take count names) (nameAt text), length-take-le count names h)
 
+-- the step at place i of a text that is gone over as far as `from`
+abbrev pub stepAt : (Name → ℕ) → List ℕ → (from i : ℕ) → State → State
+stepAt f text from i x = step f (after (i - from) (drop from text) false) (getD text i 0) (nameAt text i) x
+
 -- ---- a turn
 
 -- at place i, with room for what the step there comes to
 pub record Ready (text names : List ℕ) (from i count : ℕ) (h : Held) (depths symbols out : List ℕ) : Type 0 where
   pub inside : i < length text
   pub known : count ≤ length names
-  pub few : count ≤ 48
+  pub few : count ≤ mostElements
   pub deep : h .depth < length text
-  pub depths-long : length depths ≡ 255
-  pub symbols-long : length symbols ≡ 255
-  pub long : length out ≡ 255
-  pub back : h .at ≤ 255
+  pub depths-long : length depths ≡ mostSymbols
+  pub symbols-long : length symbols ≡ mostSymbols
+  pub long : length out ≡ mostSymbols
+  pub back : h .at ≤ mostSymbols
   pub nested : getD text i 0 ≡ 40 → 0 < h .depth
-  pub room : size (stepAt (numbered text names count) text from i (stateOf h depths symbols out)) ≤ 255
+  pub room : size (stepAt (numbered text names count) text from i (stateOf h depths symbols out)) ≤ mostSymbols
 
 -- the state has become what the step makes of it
 abbrev pub Turned : (text names : List ℕ) (from i count : ℕ) → Held → (depths symbols out depths′ symbols′ out′ : List ℕ) → Held → Type 0

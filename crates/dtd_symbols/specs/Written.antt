@@ -1,7 +1,7 @@
 -- A whole model: what is asked of the text, what stands in the buffer after it, and the turns of the loop. Assumes nothing.
 use mathlib.Core.Path.{_≡_, refl, sym, ap, _∙_}
 use mathlib.Core.Bool.{false}
-use mathlib.Core.List.{List, [], _∷_, _++_}
+use mathlib.Core.List.{List, [], _++_}
 use Prim.Native.Nat.{ℕ, suc, _+_, _-_, _≤_, _<_}
 use native.Mathlib.Omega.{arith}
 use lib.ListN.{length, take, drop, getD, length-drop, drop-of-length-le, take-append-drop}
@@ -60,22 +60,22 @@ module _ (text names : List ℕ) (from to count : ℕ) (before : List ℕ) where
   pub record Going (i : ℕ) (h : Held) (depths symbols out : List ℕ) : Type 0 where
     pub inside : to ≤ length text
     pub known : count ≤ length names
-    pub few : count ≤ 48
-    pub fits : size whole ≤ 255
+    pub few : count ≤ mostElements
+    pub fits : size whole ≤ mostSymbols
     pub leads : sweep (numbered text names count) (i - from) (drop from text) false (stateOf h depths symbols out) ≡ whole
     pub closed : Closed (numbered text names count) (i - from) (drop from text) false (stateOf h depths symbols out)
     pub level : h .depth + i ≤ to
-    pub depths-long : length depths ≡ 255
-    pub symbols-long : length symbols ≡ 255
-    pub long : length out ≡ 255
-    pub back : h .at ≤ 255
+    pub depths-long : length depths ≡ mostSymbols
+    pub symbols-long : length symbols ≡ mostSymbols
+    pub long : length out ≡ mostSymbols
+    pub back : h .at ≤ mostSymbols
     pub rest : take (h .at) out ≡ take (h .at) before
 
-  pub begun : (depths symbols : List ℕ) → length depths ≡ 255 → length symbols ≡ 255 → Spelled text names from to count before
-      → Going to (record { depth = 0; owed = 0; at = 255 }) depths symbols before
+  pub begun : (depths symbols : List ℕ) → length depths ≡ mostSymbols → length symbols ≡ mostSymbols → Spelled text names from to count before
+      → Going to (record { depth = 0; owed = 0; at = mostSymbols }) depths symbols before
   begun depths symbols d e s =
       let (w, k) = whole-is (s .part) (s .spelled) (s .inside) in
-      let l : length before ≤ 255 = omega (arith, s .long) in
+      let l : length before ≤ mostSymbols = omega (arith, s .long) in
       record {
         inside = s .inside;
         known = s .known;

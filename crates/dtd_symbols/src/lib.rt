@@ -119,8 +119,8 @@ pub fn write_symbols(
     requires { ⌜ Spelled (now text) (now names) from to count (now out) ⌝ }
     ensures { λ r. ⌜ Written (now (text .entry)) (now (names .entry)) from to count (now (out .entry)) (now (out .exit)) r ⌝ }
 {
-    let mut depths: [usize; 255] = [0; 255];
-    let mut symbols: [u8; 255] = [0; 255];
+    let mut depths: [usize; MOST_SYMBOLS] = [0; MOST_SYMBOLS];
+    let mut symbols: [u8; MOST_SYMBOLS] = [0; MOST_SYMBOLS];
     let mut held = Held {
         depth: 0,
         owed: 0,
