@@ -1,24 +1,34 @@
 // The faults of IDs and references: an ID value that is met twice, and a reference value that is no ID.
 //
-// Each ID is compared with those before it, and each reference with the IDs, so where both are few the pass that gathers them is the
-// cost. Any tokens are taken; the table is a proper one. Assumes nothing.
-use gather::VALUES;
-use gather::gather;
+// Each ID is marked in a field of bits, one for each value, and what was met earlier is asked of the field. References are a second pass,
+// over the field of all IDs. A document with no key pays for no field. Any tokens are taken; the table is a proper one.
+// Assumes nothing.
+use field::WORDS;
+use field::is_marked;
+use field::note;
+use tokens::is_value;
+use tokens::number;
+use walk::Walk;
+use walk::is_id;
+use walk::is_reference;
+use walk::is_value_at;
+use walk::next_key;
+use walk::pass;
 ghost use mathlib.Core.Path.{_≡_};
 ghost use mathlib.Core.Bool.{true};
 ghost use mathlib.Core.List.{[]};
-ghost use Prim.Native.Nat.{_≤_, _<_};
+ghost use Prim.Native.Nat.{_≤_};
 ghost use lib.ListN.{length, take};
-ghost use lib.Seq.{slice};
-ghost use Rattle.paper.specs.Basics.{mostTokens, elem};
+ghost use Rattle.paper.specs.Basics.{mostTokens};
 ghost use Rattle.paper.specs.Table.{proper};
 ghost use Rattle.paper.specs.Tokens.{toks};
 ghost use Rattle.paper.specs.Rules.{ofTable};
-ghost use Rattle.paper.specs.Judgement.{repeated, dangling, keyFault};
-ghost use Rattle.gather.specs.Key.{keysIn, valuesIn};
-
-// A reference is compared with so many IDs before it is asked whether one was equal.
-const PART: usize = 64;
+ghost use Rattle.paper.specs.Judgement.{keyFault};
+ghost use Rattle.field.specs.Field.{Field};
+ghost use Rattle.keys.specs.Marking.{fieldWords, faultOf, Begun, noted, refsLeft};
+ghost use Rattle.keys.specs.Turns.{Marks};
+ghost use Rattle.keys.specs.Looking.{unmarked, dangles};
+ghost use Rattle.keys.specs.Answer.{faultFrom};
 
 // The answer's number and place; 0 and 0: no fault.
 pub struct Fault {
@@ -26,97 +36,130 @@ pub struct Fault {
     pub place: u32,
 }
 
-// "an ID value met earlier as an ID (11, place of the later value token)": of the first n keys. The inner loop has no branch, so that
-// many keys are compared at a time; the label is taken at the first ID that was met.
-fn repeated_id(ids: &[u32], n: usize) -> Fault
-    requires { ⌜ n ≤ length (now ids) ⌝ }
-    ensures { λ r. ⌜ (r .number, r .place) ≡ repeated [] (keysIn (take n (now (ids .entry)))) ⌝ }
-{
-    let mut fault = Fault {
-        number: 0,
-        place: 0,
-    };
-    let mut i: usize = 0;
-    'ids: while i < n {
-        let value = ids[i] % VALUES;
-        let mut met = false;
-        let mut j: usize = 0;
-        while j < i {
-            met |= ids[j] % VALUES == value;
-            j += 1;
-        }
-        if met {
-            fault = Fault {
-                number: paper::ID_TWICE,
-                place: ids[i] / VALUES,
-            };
-            break 'ids;
-        }
-        i += 1;
-    }
-    fault
+// Where the references begin: at the walk, where one was found; else from the walk on.
+struct Refs {
+    at: Walk,
+    found: bool,
 }
 
-// One of the keys from `from` up to `to`, that one left out, has the value. The loop has no branch.
-fn has_value(ids: &[u32], from: usize, to: usize, value: u32) -> bool
-    requires { ⌜ (from ≤ to) × (to ≤ length (now ids)) ⌝ }
-    ensures { λ r. ⌜ r ≡ elem value (valuesIn (slice from to (now (ids .entry)))) ⌝ }
-{
-    let mut found = false;
-    let mut i = from;
-    while i < to {
-        found |= ids[i] % VALUES == value;
-        i += 1;
-    }
-    found
+// What a pass over the IDs finds: the first that was met earlier, and where the references begin.
+struct Marked {
+    fault: Fault,
+    refs: Walk,
 }
 
-// Where a part of n keys that begins at i ends: after PART keys, or at n.
-fn part_end(i: usize, n: usize) -> usize
-    requires { ⌜ i < n ⌝ }
-    ensures { λ r. ⌜ (i < r) × (r ≤ n) ⌝ }
+// No fault.
+fn none() -> Fault
+    ensures { λ r. ⌜ r ≡ faultOf 0 0 ⌝ }
 {
-    if n - i < PART {
-        return n;
-    }
-    i + PART
-}
-
-// One of the first n keys has the value. The parts after the first that has it are not looked at.
-fn is_id(ids: &[u32], n: usize, value: u32) -> bool
-    requires { ⌜ n ≤ length (now ids) ⌝ }
-    ensures { λ r. ⌜ r ≡ elem value (valuesIn (take n (now (ids .entry)))) ⌝ }
-{
-    let mut i: usize = 0;
-    while i < n {
-        let end = part_end(i, n);
-        if has_value(ids, i, end, value) {
-            return true;
-        }
-        i = end;
-    }
-    false
-}
-
-// "a reference value that is no ID in the document (12, that token)": of the first m references and n IDs.
-fn dangling_reference(refs: &[u32], m: usize, ids: &[u32], n: usize) -> Fault
-    requires { ⌜ (m ≤ length (now refs)) × (n ≤ length (now ids)) ⌝ }
-    ensures { λ r. ⌜ (r .number, r .place) ≡ dangling (valuesIn (take n (now (ids .entry)))) (keysIn (take m (now (refs .entry)))) ⌝ }
-{
-    let mut i: usize = 0;
-    while i < m {
-        if !is_id(ids, n, refs[i] % VALUES) {
-            return Fault {
-                number: paper::NO_ID,
-                place: refs[i] / VALUES,
-            };
-        }
-        i += 1;
-    }
     Fault {
         number: 0,
         place: 0,
     }
+}
+
+// Where the references begin, once a walk has come to a key.
+fn first_of(table: &[u64], refs: Refs, at: Walk) -> Refs
+    requires { ⌜ proper (now table) ≡ true ⌝ }
+    ensures { λ r. ⌜ r ≡ noted (now (table .entry)) refs at ⌝ }
+{
+    if refs.found {
+        return refs;
+    }
+    Refs {
+        at,
+        found: is_reference(table, at.element, at.attribute),
+    }
+}
+
+// "an ID value met earlier as an ID (11, place of the later value token)": the loops go over the attributes that have keys, and over the
+// values of one. Each ID is marked; the label is taken at the first that was marked before.
+fn mark_ids(table: &[u64], doc: &[u32], used: usize, from: Walk, field: &mut [u64]) -> Marked
+    requires { ⌜ (proper (now table) ≡ true) × (used ≤ length (now doc)) × (used ≤ mostTokens) ⌝ }
+    requires { ⌜ Begun (now doc) used from ⌝ }
+    requires { ⌜ (length (now field) ≡ fieldWords) × Field (now field) [] ⌝ }
+    ensures { λ r. ⌜ Marks (now (table .entry)) (now (doc .entry)) used from (now (field .exit)) r ⌝ }
+{
+    let mut fault = none();
+    let mut refs = Refs {
+        at: from,
+        found: false,
+    };
+    let mut at = from;
+    'ids: while at.place < used {
+        refs = first_of(table, refs, at);
+        let id = is_id(table, at.element, at.attribute);
+        let mut i = at.place;
+        while is_value_at(doc, used, i) {
+            let place = i as u32;
+            if note(field, id, number(doc[i])) {
+                fault = Fault {
+                    number: paper::ID_TWICE,
+                    place,
+                };
+                break 'ids;
+            }
+            i += 1;
+        }
+        let behind = Walk {
+            place: i,
+            element: at.element,
+            attribute: at.attribute,
+        };
+        at = next_key(table, doc, used, behind);
+    }
+    let first = refs.at;
+    Marked { fault, refs: first }
+}
+
+// The token at the walk's place is a reference value that is not marked.
+fn dangles(table: &[u64], at: Walk, t: u32, field: &[u64]) -> bool
+    requires { ⌜ (proper (now table) ≡ true) × (length (now field) ≡ fieldWords) ⌝ }
+    ensures { λ r. ⌜ r ≡ dangles (now (table .entry)) at t (now (field .entry)) ⌝ }
+{
+    if !is_value(t) {
+        return false;
+    }
+    if !is_reference(table, at.element, at.attribute) {
+        return false;
+    }
+    !is_marked(field, number(t))
+}
+
+// "a reference value that is no ID in the document (12, that token)": of the references from the walk on, the field being that of all IDs.
+fn dangling_reference(table: &[u64], doc: &[u32], used: usize, from: Walk, field: &[u64]) -> Fault
+    requires { ⌜ (proper (now table) ≡ true) × (used ≤ length (now doc)) × (used ≤ mostTokens) ⌝ }
+    requires { ⌜ (from .place ≤ used) × (length (now field) ≡ fieldWords) ⌝ }
+    ensures { λ r. ⌜ (r .number, r .place) ≡ unmarked (now (field .entry)) (refsLeft (now (table .entry)) (now (doc .entry)) used from) ⌝ }
+{
+    let mut at = from;
+    while at.place < used {
+        let i = at.place;
+        let place = i as u32;
+        let t = doc[i];
+        if dangles(table, at, t, field) {
+            return Fault {
+                number: paper::NO_ID,
+                place,
+            };
+        }
+        at = next_key(table, doc, used, pass(at, t));
+    }
+    none()
+}
+
+// The first fault among the IDs, else among the references, from the walk on.
+fn fault_from(table: &[u64], doc: &[u32], used: usize, from: Walk) -> Fault
+    requires { ⌜ (proper (now table) ≡ true) × (used ≤ length (now doc)) × (used ≤ mostTokens) ⌝ }
+    requires { ⌜ Begun (now doc) used from ⌝ }
+    ensures { λ r. ⌜ (r .number, r .place) ≡ faultFrom (now (table .entry)) (now (doc .entry)) used from ⌝ }
+{
+    let mut field = [0u64; WORDS];
+    let marked = mark_ids(table, doc, used, from, &mut field);
+    if marked.fault.number != 0 {
+        return marked.fault;
+    }
+    dangling_reference(table, doc, used, marked.refs, &field)
 }
 
 // The first fault among the IDs, else among the references.
@@ -124,12 +167,14 @@ pub fn key_fault(table: &[u64], doc: &[u32], used: usize) -> Fault
     requires { ⌜ (proper (now table) ≡ true) × (used ≤ length (now doc)) × (used ≤ mostTokens) ⌝ }
     ensures { λ r. ⌜ (r .number, r .place) ≡ keyFault (ofTable (now (table .entry))) (toks (take used (now (doc .entry)))) ⌝ }
 {
-    let mut ids = [0u32; paper::MOST_TOKENS];
-    let mut refs = [0u32; paper::MOST_TOKENS];
-    let g = gather(table, doc, used, &mut ids, &mut refs);
-    let fault = repeated_id(&ids, g.ids);
-    if fault.number != 0 {
-        return fault;
+    let front = Walk {
+        place: 0,
+        element: 0,
+        attribute: 0,
+    };
+    let first = next_key(table, doc, used, front);
+    if first.place >= used {
+        return none();
     }
-    dangling_reference(&refs, g.refs, &ids, g.ids)
+    fault_from(table, doc, used, first)
 }

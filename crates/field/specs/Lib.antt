@@ -1,0 +1,2 @@
+-- Values met, as a list and as a field of bits.
+pub mod Field

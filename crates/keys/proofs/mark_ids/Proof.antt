@@ -1,0 +1,125 @@
+-- `keys::mark_ids` meets its contract. The invariants are `Going` and, of the inner loop, `Among`; the measures are how many tokens are
+-- left. Assumes nothing.
+use mathlib.Core.Path.{sym, _∙_}
+use mathlib.Core.Logic.{⊎-elim}
+use Prim.Native.Nat.{_-_}
+use native.Mathlib.Omega.{arith}
+use borrow.Author.Needs.{needs}
+use Rattle.keys.specs.Turns.{marks-same, Going, Among, going-none, going-end, going-twice, going-more, going-less, among-none, among-here, among-less, among-bit, among-more}
+use Rattle.keys.proofs.mark_ids.Statement.{statement}
+use Rattle.keys.proofs.mark_ids.Tie as tie
+
+abbrev Inv-loop : tie.InvT-loop
+Inv-loop table doc used field₀ fault₀ refs at id i₀ field fault i = Among table doc used field₀ field fault at i
+
+abbrev μ-loop : tie.MeasureT-loop
+μ-loop table doc used field₀ fault₀ refs at id i₀ field fault i = used - i
+
+abbrev Inv-ids : tie.InvT-ids
+Inv-ids table doc used field₀ fault₀ refs₀ from field fault refs at = Going table doc used from field fault refs at
+
+abbrev μ-ids : tie.MeasureT-ids
+μ-ids table doc used field₀ fault₀ refs₀ from field fault refs at = used - at .place
+
+none-requires : tie.Need-none-requires Inv-loop μ-loop Inv-ids μ-ids
+none-requires c κs = search needs
+
+ids-holds : tie.Need-ids-holds Inv-loop μ-loop Inv-ids μ-ids
+ids-holds c = search going-none
+
+first-of-requires : tie.Need-first-of-requires Inv-loop μ-loop Inv-ids μ-ids
+first-of-requires c κs = search needs
+
+is-id-requires : tie.Need-is-id-requires Inv-loop μ-loop Inv-ids μ-ids
+is-id-requires c κs = search needs
+
+loop-holds : tie.Need-loop-holds Inv-loop μ-loop Inv-ids μ-ids
+loop-holds c = search among-none
+
+is-value-at-requires : tie.Need-is-value-at-requires Inv-loop μ-loop Inv-ids μ-ids
+is-value-at-requires c κs = search needs
+
+cast-place : tie.Need-cast-place Inv-loop μ-loop Inv-ids μ-ids
+cast-place c = search needs
+
+mul-number : tie.Need-mul-number Inv-loop μ-loop Inv-ids μ-ids
+mul-number c = search needs
+
+shared-slice-read-number : tie.Need-shared-slice-read-number Inv-loop μ-loop Inv-ids μ-ids
+shared-slice-read-number c =
+    let v = c .before .before .before in
+    let s = v .before .before .before .before .before .before .before .before .before .before .before in
+    let l = s .pre .0 .1 in
+    let h = among-here (s .args .table .now) (s .args .doc .now) (s .args .used) (v .before .loop .inv) l (v .is-value-at .ensures) (c .before .before .if2 .taken) in
+    omega (arith, h, l)
+
+number-requires : tie.Need-number-requires Inv-loop μ-loop Inv-ids μ-ids
+number-requires c κs = search needs
+
+note-requires : tie.Need-note-requires Inv-loop μ-loop Inv-ids μ-ids
+note-requires c κs = search among-bit
+
+add-i : tie.Need-add-i Inv-loop μ-loop Inv-ids μ-ids
+add-i c = search needs
+
+loop-less : tie.Need-loop-less Inv-loop μ-loop Inv-ids μ-ids
+loop-less c = search among-less
+
+loop-again : tie.Need-loop-again Inv-loop μ-loop Inv-ids μ-ids
+loop-again c = search among-more
+
+next-key-requires : tie.Need-next-key-requires Inv-loop μ-loop Inv-ids μ-ids
+next-key-requires c κs = search needs
+
+ids-less : tie.Need-ids-less Inv-loop μ-loop Inv-ids μ-ids
+ids-less c = let s = c .before .before .before .before .before .before .before .before .before .before .before .before .before in search (going-less, s .pre .0)
+
+ids-again : tie.Need-ids-again Inv-loop μ-loop Inv-ids μ-ids
+ids-again c = let s = c .before .before .before .before .before .before .before .before .before .before .before .before .before in search (going-more, s .pre .0)
+
+returns : tie.Need-returns Inv-loop μ-loop Inv-ids μ-ids
+returns c =
+    let g = c .before .before .before in
+    let s = g .before .before .before .before .before in
+    let table = s .args .table .now in
+    let doc = s .args .doc .now in
+    let used = s .args .used in
+    let l = s .pre .0 .1 in
+    ⊎-elim
+    (λ w. let (o, e, f, r) = w in marks-same (going-end table doc used (s .args .from) (g .ids .inv) l (o .left)) e f r)
+    (λ w.
+    let (o, first, id, loop, here, o2, arg, known, number, note, field, known2, o3, e, f, r) = w in
+    marks-same (going-twice table doc used (loop .inv) l (here .ensures) (o2 .taken) (id .ensures) (number .ensures) (note .ensures) (note .kept .0)
+    (s .args .from) (g .ids .inv) (first .ensures) (o3 .taken)) e f r)
+    (c .before .if1 .came)
+
+same-length : tie.Need-same-length Inv-loop μ-loop Inv-ids μ-ids
+same-length c = let s = c .before .before .before .before .before .before .before .before in returns c .long ∙ sym (s .pre .1 .1 .0)
+
+pub mark-ids-spec : {M : Type 1} → statement M
+mark-ids-spec =
+    tie.close
+    (tie.spec
+    Inv-loop
+    μ-loop
+    Inv-ids
+    μ-ids
+    none-requires
+    ids-holds
+    first-of-requires
+    is-id-requires
+    loop-holds
+    is-value-at-requires
+    cast-place
+    mul-number
+    shared-slice-read-number
+    number-requires
+    note-requires
+    add-i
+    loop-less
+    loop-again
+    next-key-requires
+    ids-less
+    ids-again
+    same-length
+    returns)
