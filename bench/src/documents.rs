@@ -225,6 +225,27 @@ pub fn with_last_element_wrong(tokens: &[u32]) -> Vec<u32> {
 /// The paper's small shade.
 pub const SMALL_SHADE: [u32; 28] = [4, 0, 2, 5, 0, 4, 6, 3, 8, 1, 0, 0, 0, 2, 2, 3, 7, 1, 1, 1, 0, 1, 0, 0, 1, 2, 2, 0];
 
+/// The paper's document of the small shade.
+pub const SMALL_DOCUMENT: [u32; 15] = [1, 4, 61, 9, 12, 165, 17, 243, 2, 2, 25, 20, 165, 2, 2];
+
+/// The insert into it that the paper has done, and the remove that takes it back.
+pub fn small_pair() -> Pair {
+    let edit = |operation, piece| Edit { operation, place: 10, piece };
+    Pair { name: "insert", back_name: "remove", edit: edit(INSERT, vec![9, 12, 173, 2]), back: edit(REMOVE, vec![]) }
+}
+
+/// A document of `Mix::Depth64`'s schema with no ID and no reference: one node of rows.
+pub fn no_ids(size: usize) -> Vec<u32> {
+    let mut maker = Maker::new();
+    maker.root();
+    maker.start(1);
+    rows(size - 6).into_iter().for_each(|length| maker.row(length));
+    maker.end();
+    maker.end();
+    assert_eq!(maker.tokens.len(), size, "no IDs");
+    maker.tokens
+}
+
 /// A schema at the limits: 48 elements, each with a model of 255 symbols and 64 names and with 64 attributes. The model is
 /// `((n0|…|n46)*, n47, (n0|…|n15)*)`, the names turned by one from element to element; the first choice stands under 127
 /// operators of one part, `?`, `*` and `+` in turn.

@@ -145,7 +145,7 @@ fn cases_of(mix: Mix) -> Vec<Case> {
                 times: [None; 4],
             };
             let rows = if pair.name == pair.back_name { vec![row(pair.name)] } else { vec![row(pair.name), row(pair.back_name)] };
-            let texts = [text_of(&edited(&table, &buffer, &pair.edit)), text_of(&tokens)];
+            let texts = [text_of(&edited(&table, &buffer, EDIT_TOKENS, &pair.edit)), text_of(&tokens)];
             let input = Input::Pair {
                 table: table.clone(),
                 buffer: buffer.clone(),
@@ -173,9 +173,9 @@ fn cases_of(mix: Mix) -> Vec<Case> {
 }
 
 /// The used tokens after an edit that is done, by the plain version.
-fn edited(table: &[u64], buffer: &[u32], edit: &Edit) -> Vec<u32> {
+fn edited(table: &[u64], buffer: &[u32], used: usize, edit: &Edit) -> Vec<u32> {
     let mut lent = buffer.to_vec();
-    let answer = Plain { keys: Keys::Field }.edit(table, &mut lent, EDIT_TOKENS as u64, edit.operation, edit.place, &edit.piece);
+    let answer = Plain { keys: Keys::Field }.edit(table, &mut lent, used as u64, edit.operation, edit.place, &edit.piece);
     if answer.number != 0 {
         stop("the plain version refuses an edit that is to be done");
     }
@@ -199,6 +199,7 @@ fn cases_of_files() -> Vec<Case> {
     cases.push(translate("schema at the limits", &documents::dense_schema()));
     let dense = Input::Check { table: Rc::new(table_of(&documents::dense_schema())), buffer: vec![0; 2], used: 0, number: 4, text: None };
     cases.push(Case::new(Section::File, "schema at the limits", "test of the table alone", 0, dense));
+    cases.extend(small_and_bare());
     cases.extend(comparisons());
     cases.extend(imports());
     let mix = Mix::FewIds;
@@ -223,6 +224,31 @@ fn cases_of_files() -> Vec<Case> {
         }
     }
     cases
+}
+
+/// The paper's small document, and large ones with no ID: each checked, and an insert with the remove that takes it back.
+fn small_and_bare() -> Vec<Case> {
+    let bare = documents::no_ids(EDIT_TOKENS);
+    let bare_pair = Mix::Depth64.pairs(&bare, SPOTS[0]).swap_remove(0);
+    let mut cases = judged("small shade", &documents::SMALL_SHADE, &documents::SMALL_DOCUMENT, documents::small_pair());
+    cases.extend(judged("no ID", &Mix::Depth64.schema(), &bare, bare_pair));
+    cases
+}
+
+/// A document's check, and an edit of it with the one that takes it back.
+fn judged(name: &'static str, schema: &[u32], tokens: &[u32], pair: documents::Pair) -> Vec<Case> {
+    let table = Rc::new(table_of(schema));
+    let doctype = xml::doctype(schema);
+    let text_of = |tokens: &[u32]| doctype.clone() + &xml::document(tokens);
+    let mut buffer = tokens.to_vec();
+    buffer.resize(ROOM, 0);
+    let used = tokens.len();
+    let check = Input::Check { table: table.clone(), buffer: buffer.clone(), used: used as u64, number: 0, text: Some(text_of(tokens)) };
+    let texts = [text_of(&edited(&table, &buffer, used, &pair.edit)), text_of(tokens)];
+    let both = Input::Pair { table, buffer, used: used as u64, edit: pair.edit, back: pair.back, texts };
+    let mut edits = Case::new(Section::File, name, pair.name, used, both);
+    edits.rows.push(Row { section: Section::File, mix: name, what: pair.back_name.to_string(), spot: "", tokens: used, times: [None; 4] });
+    vec![Case::new(Section::File, name, "check", used, check), edits]
 }
 
 /// A DTD at the limits of elements and attributes in about 8 KB, and hostile texts of 65,536 bytes.

@@ -204,3 +204,8 @@ module _ (table doc : List ℕ) (used low high : ℕ) where
 
       pub looking-found : (a .0 ≡ 0 → ⊥) → a ≡ firstIn table doc used low high
       looking-found f = found-first number place later ea f ∙ sym here
+
+    -- no element starts at the place
+    pub looking-other : {y : Bool} → i < high → high ≤ used → used ≤ length doc → y ≡ starts (tokOf (getD doc i 0)) → not y ≡ true
+        → Looking table doc used low high (i + 1)
+    looking-other h g l ey n = looking-on h g l (fault-other table doc used i l (omega arith) ey n) refl

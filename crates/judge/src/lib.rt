@@ -103,8 +103,12 @@ pub fn first_fault(
 {
     let mut i = low;
     while i < high {
-        let fault = element_fault(table, doc, used, closes, i);
+        let place = i;
         i += 1;
+        if !is_start(doc[place]) {
+            continue;
+        }
+        let fault = element_fault(table, doc, used, closes, place);
         if fault.number != 0 {
             return fault;
         }

@@ -1,13 +1,14 @@
 -- A whole table, and what makes it proper. Assumes nothing.
-use mathlib.Core.Path.{_≡_, refl, sym, ap, _∙_}
-use mathlib.Core.Bool.{Bool, true, false, not, and-true}
-use mathlib.Core.List.{List}
-use Prim.Native.Nat.{ℕ, _+_, _-_, _*_, _≤_, _<_}
+use mathlib.Core.Path.{_≡_, refl, sym, ap, ap₂, _∙_}
+use mathlib.Core.Bool.{Bool, true, false, not, _&&_, and-true, and-assoc}
+use mathlib.Core.List.{List, [], _∷_}
+use Prim.Native.Nat.{ℕ, zero, suc, _+_, _*_, _≤_, _<_}
 use native.Mathlib.Numerals.{add-one}
 use native.Mathlib.Omega.{arith}
 use borrow.Author.Tests.{lt-ltb, eq-eqb, le-leb, not-true, not-false}
-use lib.ListN.{length, take, drop, getD, length-drop}
-use lib.Seq.{take-all}
+use lib.Dec.{eqb}
+use lib.ListN.{length, take, drop, getD, drop-of-length-le}
+use lib.Seq.{drop-drop}
 use Rattle.paper.specs.Basics.{mostElements, every}
 use Rattle.paper.specs.Table.{tableLength, blockLength, block, zeros, properBlock, proper}
 use Rattle.basic_laws.specs.Bools.{clash, fails}
@@ -44,6 +45,45 @@ module _ (t : List ℕ) (E e : ℕ) (p : Passing t E e) where
   unfolding properBlocks
   all-passed h = let q : e ≡ E = omega arith in sym (rw q at (p .passed))
 
+-- ---- the blocks that are unused
+
+-- those from e on are 0
+abbrev pub restZero : List ℕ → ℕ → Bool
+restZero t e = zeros (drop (2 + e * blockLength) t)
+
+-- those from E up to e are
+pub record Unused (t : List ℕ) (E e : ℕ) : Type 0 where
+  pub few : e ≤ mostElements
+  pub same : restZero t e ≡ restZero t E
+
+pub unused-none : (t : List ℕ) (E : ℕ) → E ≤ mostElements → Unused t E E
+unused-none t E h = record { few = h; same = refl }
+
+module _ (t : List ℕ) (E e : ℕ) (p : Unused t E e) where
+  pub unused-all : length t ≡ tableLength → mostElements ≤ e → true ≡ restZero t E
+  unused-all long h =
+      let q : e ≡ mostElements = omega (arith, p .few) in
+      ap zeros (sym (drop-of-length-le t {i = 2 + e * blockLength} (omega arith))) ∙ p .same
+
+  module _ {r : Bool} {b : List ℕ} (h : e < mostElements) (s : b ≡ block t e) (q : r ≡ zeros b) where
+    parts : restZero t e ≡ (r && restZero t (e + 1))
+    unfolding block
+    parts =
+        let n : ℕ = 2 + e * blockLength in
+        let m : n + blockLength ≡ 2 + (e + 1) * blockLength = omega arith in
+        split blockLength (drop n t) ∙ ap₂ (λ a l. a && zeros l) (sym (q ∙ ap zeros s)) (drop-drop blockLength n t ∙ ap (λ k. drop k t) m)
+      where
+        split : (n : ℕ) (l : List ℕ) → zeros l ≡ (zeros (take n l) && zeros (drop n l))
+        split zero l = refl
+        split (suc n) [] = refl
+        split (suc n) (x ∷ l) = ap (λ b. eqb 0 x && b) (split n l) ∙ sym (and-assoc (eqb 0 x) (zeros (take n l)) (zeros (drop n l)))
+
+    pub unused-more : not r ≡ false → Unused t E (e + 1)
+    unused-more n = record { few = omega arith; same = sym (ap (λ a. a && restZero t (e + 1)) (not-false r n)) ∙ sym parts ∙ p .same }
+
+    pub unused-not : not r ≡ true → false ≡ restZero t E
+    unused-not n = sym (ap (λ a. a && restZero t (e + 1)) (not-true r n)) ∙ sym parts ∙ p .same
+
 -- ---- the test
 
 module _ (t : List ℕ) where
@@ -62,14 +102,7 @@ module _ (t : List ℕ) where
   pub no-root : getD t 0 0 ≤ getD t 1 0 → false ≡ proper t
   no-root h = refused (λ q. let p = table-parts t q in omega arith)
 
-  module _ {r : Bool} (long : length t ≡ tableLength) (few : getD t 0 0 ≤ mostElements)
-      (e : r ≡ zeros (take (length t - (2 + getD t 0 0 * blockLength)) (drop (2 + getD t 0 0 * blockLength) t))) where
-    unused : r ≡ zeros (drop (2 + getD t 0 0 * blockLength) t)
-    unused =
-        let n : ℕ = 2 + getD t 0 0 * blockLength in
-        let s : take (length t - n) (drop n t) ≡ drop n t = take-all (length t - n) (drop n t) (simp length-drop (omega arith)) in
-        rw s at e
-
+  module _ {r : Bool} (long : length t ≡ tableLength) (few : getD t 0 0 ≤ mostElements) (unused : r ≡ restZero t (getD t 0 0)) where
     pub not-unused : not r ≡ true → false ≡ proper t
     not-unused n = refused (λ q. clash (unused ∙ table-parts t q .unused) (not-true r n))
 

@@ -3,8 +3,6 @@
 // No table is trusted. `proper` takes any slice, and refuses what the paper does not call proper. Numbers that must be 0 are joined
 // into one word, so that a table is read once, with no branch for each number. Nothing is written. Assumes nothing.
 use paper::ALLOWED_AT;
-use paper::BLOCK_WORDS;
-use paper::BLOCKS_AT;
 use paper::COUNT_AT;
 use paper::FIRST_AT;
 use paper::FOLLOW_AT;
@@ -33,7 +31,7 @@ ghost use Rattle.paper.specs.Table;
 ghost use Rattle.paper.specs.Table.{tableLength, blockLength, zeros, properSets, properModel, properBlock};
 ghost use Rattle.proper.specs.Union.{union};
 ghost use Rattle.proper.specs.Model.{ranged};
-ghost use Rattle.proper.specs.Whole.{properBlocks};
+ghost use Rattle.proper.specs.Whole.{properBlocks, restZero};
 
 // The members of all the sets, as one set.
 fn union_of(words: &[u64]) -> u64
@@ -160,6 +158,21 @@ fn proper_blocks(table: &[u64], elements: u64) -> bool
     true
 }
 
+// "blocks from E on included, are 0": tested a block at a time, so that the compiler knows how many numbers there are, and unrolls.
+fn unused_from(table: &[u64], elements: u64) -> bool
+    requires { ⌜ (length (now table) ≡ tableLength) × (elements ≤ mostElements) ⌝ }
+    ensures { λ r. ⌜ r ≡ restZero (now (table .entry)) elements ⌝ }
+{
+    let mut e = elements as usize;
+    while e < MOST_ELEMENTS {
+        if !all_zero(block_of(table, e)) {
+            return false;
+        }
+        e += 1;
+    }
+    true
+}
+
 // "A table is proper exactly if: it has 6,626 numbers; E, root and kinds keep their ranges; [..] unused numbers, blocks from E
 // on included, are 0."
 pub fn proper(table: &[u64]) -> bool
@@ -178,8 +191,7 @@ pub fn proper(table: &[u64]) -> bool
     if table[1] >= elements {
         return false;
     }
-    let end = BLOCKS_AT + elements as usize * BLOCK_WORDS;
-    if !all_zero(&table[end..]) {
+    if !unused_from(table, elements) {
         return false;
     }
     proper_blocks(table, elements)

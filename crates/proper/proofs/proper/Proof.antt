@@ -23,26 +23,8 @@ shared-slice-read-if4 c = search needs
 returns-4 : tie.Need-returns-4
 returns-4 c = no-root _ (omega arith)
 
-mul-end : tie.Need-mul-end
-mul-end c = search needs
-
-add-end : tie.Need-add-end
-add-end c = search needs
-
-mul-all-zero : tie.Need-mul-all-zero
-mul-all-zero c = search needs
-
-sub-all-zero : tie.Need-sub-all-zero
-sub-all-zero c = search needs
-
-part-all-zero-start : tie.Need-part-all-zero-start
-part-all-zero-start c = search needs
-
-part-all-zero-end : tie.Need-part-all-zero-end
-part-all-zero-end c = search needs
-
-all-zero-requires : tie.Need-all-zero-requires
-all-zero-requires c κs = search needs
+unused-from-requires : tie.Need-unused-from-requires
+unused-from-requires c κs = search needs
 
 returns-5 : tie.Need-returns-5
 returns-5 c = search not-unused
@@ -63,13 +45,7 @@ proper-spec =
     returns-3
     shared-slice-read-if4
     returns-4
-    mul-end
-    add-end
-    mul-all-zero
-    sub-all-zero
-    part-all-zero-start
-    part-all-zero-end
-    all-zero-requires
+    unused-from-requires
     returns-5
     proper-blocks-requires
     returns-6)
