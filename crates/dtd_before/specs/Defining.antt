@@ -14,7 +14,7 @@ use Rattle.dtd_laws.specs.Unique.{any}
 use Rattle.dtd_laws.specs.Leaves.{past-run}
 use Rattle.dtd_laws.specs.Contents.{past-white}
 use Rattle.dtd_laws.specs.Kept.{words, words-append, for-append, same-true}
-use Rattle.dtd_laws.specs.Names.{among-append, among-here}
+use Rattle.dtd_laws.specs.Names.{same-sym, among-append, among-here}
 use Rattle.dtd_words.specs.Places.{At}
 use Rattle.dtd_names.specs.Named.{nameAt}
 use Rattle.dtd_rows.specs.declared.Row.{Row}
@@ -87,10 +87,10 @@ module _ (text : List ℕ) (upto e : ℕ) where
         ∙ name-clear (c .name) behind (c .spelled .2 .0) (c .spelled .2 .1)
         ∙ definitions-end (c .ds) (c .spelled .2 .0) (c .r) (c .spelled .2 .2)
 
-    module _ (y : Bool) (q : y ≡ same (nameAt text e) (nameAt text a)) where
+    module _ (y : Bool) (q : y ≡ same (nameAt text a) (nameAt text e)) where
       pub other-scan : y ≡ false → Scan text upto e (beyond (drop at text)) row
       other-scan p =
-          let o : same n (c .name) ≡ false = ap (same n) (sym (called-here .0)) ∙ sym q ∙ p in
+          let o : same n (c .name) ≡ false = ap (same n) (sym (called-here .0)) ∙ same-sym (nameAt text a) n (sym q ∙ p) in
           rw end-here (record {
             done = c .done ++ attlist (c .name) (c .ds) ∷ [];
             left = c .left;
@@ -102,7 +102,7 @@ module _ (text : List ℕ) (upto e : ℕ) where
         here-b = z .rest ∙ called-here .1
 
         mine : n ≡ c .name
-        mine = same-true n (nameAt text a) (sym q ∙ p) ∙ called-here .0
+        mine = sym (same-true (nameAt text a) n (sym q ∙ p)) ∙ called-here .0
 
         pub same-mid : Mid (drop b text) row
         same-mid = record {

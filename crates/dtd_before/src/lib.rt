@@ -102,7 +102,7 @@ fn attlist_row(
     ensures { λ r. ⌜ Scan (now (text .entry)) upto e (beyond (drop at (now (text .entry)))) r ⌝ }
 {
     let a = skip_white(text, at);
-    if same_at(text, e, a) {
+    if same_at(text, a, e) {
         return definitions_row(text, upto, e, attributes, count, name_end(text, a), before);
     }
     before

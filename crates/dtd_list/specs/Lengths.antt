@@ -7,12 +7,10 @@ use Prim.Native.Nat.{ℕ, _+_, _-_, _≤_, _<_}
 use native.Mathlib.Omega.{arith}
 use borrow.Author.Tests.{leb-true, leb-false, le-leb, lt-leb}
 use lib.Dec.{leb}
-use lib.ListN.{length, take, drop, getD, length-append}
-use Rattle.paper.specs.Dtd.Letters.{Name, isMore, begins}
+use lib.ListN.{length, take, getD, length-append}
+use Rattle.paper.specs.Dtd.Letters.{Name}
 use Rattle.paper.specs.Dtd.Numbering.{listed}
-use Rattle.dtd_words.specs.Places.{begins-inside}
 use Rattle.dtd_names.specs.Named.{nameAt, namesAt}
-use Rattle.dtd_names.specs.Turns.{name-none, name-more}
 use Rattle.dtd_list.specs.Lists.{ended, length-ended, listed-both, listFrom, list-next, list-end}
 
 -- n, if it is at most `room`; room + 1, if it is more
@@ -28,31 +26,6 @@ pub record BothCounted (elements : List ℕ) (count : ℕ) (attributes : List �
   pub some : count ≤ length elements
   pub some-attributes : defined ≤ length attributes
   pub small : room < 18446744073709551615
-
--- ---- a name
-
-module _ (text : List ℕ) (at : ℕ) where
-  -- the name has i - at bytes before i
-  pub record Gone (i : ℕ) : Type 0 where
-    pub onward : at ≤ i
-    pub length-is : at + length (nameAt text at) ≡ i + length (nameAt text i)
-
-  pub gone-none : Gone at
-  gone-none = record { onward = omega arith; length-is = refl }
-
-  module _ (i : ℕ) (g : Gone i) (b : Bool) (q : b ≡ begins isMore (drop i text)) where
-    pub gone-inside : b ≡ true → i < length text
-    gone-inside p = begins-inside isMore text i (sym q ∙ p)
-
-    pub gone-more : b ≡ true → Gone (i + 1)
-    gone-more p =
-        record {
-          onward = omega (arith, g .onward);
-          length-is = omega (arith, g .length-is, ap length (name-more text i (sym q ∙ p)));
-        }
-
-    pub gone-all : b ≡ false → i - at ≡ length (nameAt text at)
-    gone-all p = omega (arith, g .onward, g .length-is, ap length (name-none text i (sym q ∙ p)))
 
 -- ---- names in a row
 

@@ -11,7 +11,7 @@ use Rattle.lines.specs.Put.{Put, put-length, put-both, put-as, put-one}
 use Rattle.lines.specs.Putting.{Putting, putting-none, putting-more, putting-all}
 use Rattle.dtd_words.specs.Places.{begins-inside}
 use Rattle.dtd_names.specs.Named.{nameAt, namesAt}
-use Rattle.dtd_names.specs.Turns.{name-none, name-more}
+use Rattle.dtd_names.specs.Lengths.{name-none, name-more}
 use Rattle.dtd_list.specs.Lists.{ended, length-ended, listed-both, listFrom, list-next, list-end}
 
 -- the names fit into the buffer from a place on

@@ -2,6 +2,7 @@
 //
 // A name is told by the place in the text at which it begins. Names may have any length: they are counted up to the room there is.
 use dtd_names::more_at;
+use dtd_names::name_length;
 ghost use mathlib.Core.Path.{_≡_};
 ghost use mathlib.Core.List.{_++_};
 ghost use Prim.Native.Nat.{_+_, _≤_, _<_};
@@ -12,17 +13,6 @@ ghost use Rattle.dtd_names.specs.Named.{nameAt, namesAt};
 ghost use Rattle.dtd_list.specs.Lengths.{upTo, Counting, BothCounted};
 ghost use Rattle.dtd_list.specs.Lists.{ended};
 ghost use Rattle.dtd_list.specs.Puts.{Roomy, BothRoomy};
-
-// A name's length.
-fn name_length(text: &[u8], at: usize) -> usize
-    ensures { λ r. ⌜ r ≡ length (nameAt (now (text .entry)) at) ⌝ }
-{
-    let mut i = at;
-    while more_at(text, i) {
-        i += 1;
-    }
-    i - at
-}
 
 // What `from` bytes and the names come to, if it is at most `room`; room + 1, if it is more.
 fn list_length(text: &[u8], names: &[usize], count: usize, from: usize, room: usize) -> usize

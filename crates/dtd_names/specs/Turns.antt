@@ -1,80 +1,21 @@
--- Names at places compared byte by byte, and looked for in a list: turns of the loops. Assumes nothing.
-use mathlib.Core.Path.{_≡_, refl, sym, ap, _∙_}
-use mathlib.Core.Logic.{_≢_}
+-- Names at places, and looked for in a list: turns of the loop. Assumes nothing.
+use mathlib.Core.Path.{_≡_, refl, sym, _∙_}
 use mathlib.Core.Bool.{Bool, true, false, not, cond, _||_}
-use mathlib.Core.List.{List, [], _∷_, map}
+use mathlib.Core.List.{List, [], _∷_}
 use Prim.Native.Nat.{ℕ, suc, _+_, _-_, _≤_, _<_, compare·suc-suc}
 use native.Mathlib.Omega.{arith}
 use native.Mathlib.Numerals.{add-one}
-use borrow.Author.Tests.{eq-eqb, ne-eqb, lt-ltb, not-true, not-false}
-use lib.Dec.{eqb, ltb}
-use lib.ListN.{length, take, drop, getD, length-drop, drop-of-length-le}
+use borrow.Author.Tests.{lt-ltb, not-false}
+use lib.Dec.{ltb}
+use lib.ListN.{length, take, drop, getD, drop-of-length-le}
 use lib.Seq.{drop-cons, length-take-le, getD-take}
-use Rattle.paper.specs.Dtd.Letters.{Name, isMore, isFirst, begins, run, past, same, among}
+use Rattle.paper.specs.Dtd.Letters.{Name, isMore, isFirst, begins, past, same, among}
 use Rattle.paper.specs.Dtd.Numbering.{numberIn}
-use Rattle.paper.specs.Dtd.Readers.{Read, ok, stop, name, outside}
+use Rattle.paper.specs.Dtd.Readers.{name}
 use Rattle.paper.specs.Dtd.Reading.{mention}
-use Rattle.dtd_words.specs.declared.Step.{Step}
-use Rattle.dtd_words.specs.Places.{At, begins-none, begins-at, begins-inside}
+use Rattle.dtd_words.specs.Places.{At}
 use Rattle.dtd_words.specs.Words.{Came}
 use Rattle.dtd_names.specs.Named.{nameAt, namesAt, knownBy}
-
--- ---- two names, byte by byte
-
-module _ (text : List ℕ) where
-  pub name-none : (a : ℕ) → begins isMore (drop a text) ≡ false → nameAt text a ≡ []
-  name-none a p = by (drop a text) p
-    where
-      by : (s : List ℕ) → begins isMore s ≡ false → run isMore s ≡ []
-      by [] p = refl
-      by (b ∷ s) p = rw p
-
-  pub name-more : (a : ℕ) → begins isMore (drop a text) ≡ true → nameAt text a ≡ getD text a 0 ∷ nameAt text (a + 1)
-  name-more a p =
-      let h = begins-inside isMore text a p in
-      let e = drop-cons text a 0 h in
-      ap (run isMore) e ∙ rw (sym (ap (begins isMore) e) ∙ p, add-one a)
-
-  -- the names at a and b are the same exactly if those at i and j are
-  pub record Still (a b i j : ℕ) : Type 0 where
-    pub alike : same (nameAt text a) (nameAt text b) ≡ same (nameAt text i) (nameAt text j)
-
-  pub begun : (a b : ℕ) → Still a b a b
-  begun a b = record { alike = refl }
-
-  module _ (a b i j : ℕ) (s : Still a b i j) where
-    finished : begins isMore (drop i text) ≡ false → (n : Bool) → n ≡ begins isMore (drop j text) → not n ≡ same (nameAt text a) (nameAt text b)
-    finished p n r = ap not r ∙ sym (s .alike ∙ ap (λ l. same l (nameAt text j)) (name-none i p) ∙ go (begins isMore (drop j text)) refl)
-      where
-        go : (x : Bool) → begins isMore (drop j text) ≡ x → same [] (nameAt text j) ≡ not x
-        go true x = rw (name-more j x)
-        go false x = rw (name-none j x)
-
-    pub ended : length text ≤ i → (n : Bool) → n ≡ begins isMore (drop j text) → not n ≡ same (nameAt text a) (nameAt text b)
-    ended h = finished (sym (begins-none isMore text i h))
-
-    -- m: whether the byte at i is one of a name
-    module _ (m : Bool) (h : i < length text) (q : m ≡ isMore (getD text i 0)) where
-      going : begins isMore (drop i text) ≡ m
-      going = sym (begins-at isMore text i m h q)
-
-      pub ends : (n : Bool) → not m ≡ true → n ≡ begins isMore (drop j text) → not n ≡ same (nameAt text a) (nameAt text b)
-      ends n p = finished (going ∙ not-true m p) n
-
-      pub short : not m ≡ false → length text ≤ j → false ≡ same (nameAt text a) (nameAt text b)
-      short p k = sym (s .alike ∙ rw (name-more i (going ∙ not-false m p), name-none j (ap (begins isMore) (drop-of-length-le text k))))
-
-      pub more : not m ≡ false → j < length text → getD text i 0 ≡ getD text j 0 → Still a b (i + 1) (j + 1)
-      more p k e =
-          let w : begins isMore (drop j text) ≡ true = ap (begins isMore) (drop-cons text j 0 k) ∙ ap isMore (sym e) ∙ sym q ∙ not-false m p in
-          record { alike = s .alike ∙ rw (name-more i (going ∙ not-false m p), name-more j w, eq-eqb (getD text i 0) (getD text j 0) e) }
-
-      pub differ : not m ≡ false → j < length text → getD text i 0 ≢ getD text j 0 → false ≡ same (nameAt text a) (nameAt text b)
-      differ p k e = sym (s .alike ∙ ap (λ l. same l (nameAt text j)) (name-more i (going ∙ not-false m p)) ∙ go (begins isMore (drop j text)) refl)
-        where
-          go : (x : Bool) → begins isMore (drop j text) ≡ x → same (getD text i 0 ∷ nameAt text (i + 1)) (nameAt text j) ≡ false
-          go true x = rw (name-more j x, ne-eqb (getD text i 0) (getD text j 0) e)
-          go false x = rw (name-none j x)
 
 -- ---- a name in a list
 

@@ -34,26 +34,40 @@ pub fn first_at(text: &[u8], at: usize) -> bool
     is_first(text[at])
 }
 
+// How many bytes the name at a place has.
+pub fn name_length(text: &[u8], at: usize) -> usize
+    ensures { λ r. ⌜ r ≡ length (nameAt (now (text .entry)) at) ⌝ }
+{
+    let mut i = at;
+    while more_at(text, i) {
+        i += 1;
+    }
+    i - at
+}
+
+// Whether the name at `b` is that at `a`, which has n bytes: from its end to its front, since many names differ at their ends alone.
+fn same_name(text: &[u8], a: usize, n: usize, b: usize) -> bool
+    requires { ⌜ n ≡ length (nameAt (now text) a) ⌝ }
+    ensures { λ r. ⌜ r ≡ same (nameAt (now (text .entry)) a) (nameAt (now (text .entry)) b) ⌝ }
+{
+    if text.len() - n < b {
+        return n == 0;
+    }
+    let mut k = n;
+    while 0 < k {
+        k -= 1;
+        if text[a + k] != text[b + k] {
+            return false;
+        }
+    }
+    !more_at(text, b + n)
+}
+
 // Whether the names at two places are the same.
 pub fn same_at(text: &[u8], a: usize, b: usize) -> bool
     ensures { λ r. ⌜ r ≡ same (nameAt (now (text .entry)) a) (nameAt (now (text .entry)) b) ⌝ }
 {
-    let mut i = a;
-    let mut j = b;
-    while i < text.len() {
-        if !is_more(text[i]) {
-            return !more_at(text, j);
-        }
-        if text.len() <= j {
-            return false;
-        }
-        if text[i] != text[j] {
-            return false;
-        }
-        i += 1;
-        j += 1;
-    }
-    !more_at(text, j)
+    same_name(text, a, name_length(text, a), b)
 }
 
 // The number of a name among the first `count` names; `count`, if it is none of them.
@@ -61,9 +75,10 @@ pub fn find_name(text: &[u8], names: &[usize], count: usize, at: usize) -> usize
     requires { ⌜ count ≤ length (now names) ⌝ }
     ensures { λ r. ⌜ r ≡ numberIn (namesAt (now (text .entry)) (take count (now (names .entry)))) (nameAt (now (text .entry)) at) ⌝ }
 {
+    let n = name_length(text, at);
     let mut i: usize = 0;
     while i < count {
-        if same_at(text, at, names[i]) {
+        if same_name(text, at, n, names[i]) {
             return i;
         }
         i += 1;

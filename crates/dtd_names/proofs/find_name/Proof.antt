@@ -6,22 +6,25 @@ use Rattle.dtd_names.proofs.find_name.Statement.{statement}
 use Rattle.dtd_names.proofs.find_name.Tie as tie
 
 abbrev Inv-loop : tie.InvT-loop
-Inv-loop text names count at i₀ i = Sought text names count at i
+Inv-loop text names count at n i₀ i = Sought text names count at i
 
 abbrev μ-loop : tie.MeasureT-loop
-μ-loop text names count at i₀ i = count - i
+μ-loop text names count at n i₀ i = count - i
+
+name-length-requires : tie.Need-name-length-requires Inv-loop μ-loop
+name-length-requires c κs = search needs
 
 loop-holds : tie.Need-loop-holds Inv-loop μ-loop
 loop-holds c = search (needs, sought)
 
-mul-same-at : tie.Need-mul-same-at Inv-loop μ-loop
-mul-same-at c = search needs
+mul-same-name : tie.Need-mul-same-name Inv-loop μ-loop
+mul-same-name c = search needs
 
-shared-slice-read-same-at : tie.Need-shared-slice-read-same-at Inv-loop μ-loop
-shared-slice-read-same-at c = search needs
+shared-slice-read-same-name : tie.Need-shared-slice-read-same-name Inv-loop μ-loop
+shared-slice-read-same-name c = search needs
 
-same-at-requires : tie.Need-same-at-requires Inv-loop μ-loop
-same-at-requires c κs = search needs
+same-name-requires : tie.Need-same-name-requires Inv-loop μ-loop
+same-name-requires c κs = search needs
 
 returns : tie.Need-returns Inv-loop μ-loop
 returns c = search (needs, found)
@@ -44,10 +47,11 @@ find-name-spec =
     (tie.spec
     Inv-loop
     μ-loop
+    name-length-requires
     loop-holds
-    mul-same-at
-    shared-slice-read-same-at
-    same-at-requires
+    mul-same-name
+    shared-slice-read-same-name
+    same-name-requires
     returns
     add-i
     loop-less

@@ -1,11 +1,11 @@
--- `dtd_list::name_length` meets its contract: the name goes on at i. Assumes nothing.
+-- `dtd_names::name_length` meets its contract: the name goes on at i. Assumes nothing.
 use borrow.Author.Needs.{needs}
 use Prim.Native.Nat.{_-_, _<_}
 use native.Mathlib.Omega.{arith}
 use lib.ListN.{length}
-use Rattle.dtd_list.specs.Lengths.{Gone, gone-none, gone-inside, gone-more, gone-all}
-use Rattle.dtd_list.proofs.name_length.Statement.{statement}
-use Rattle.dtd_list.proofs.name_length.Tie as tie
+use Rattle.dtd_names.specs.Lengths.{Gone, gone-none, gone-inside, gone-more, gone-all}
+use Rattle.dtd_names.proofs.name_length.Statement.{statement}
+use Rattle.dtd_names.proofs.name_length.Tie as tie
 
 abbrev Inv-loop : tie.InvT-loop
 Inv-loop text at i₀ i = Gone text at i
