@@ -12,7 +12,7 @@ use Rattle.paper.specs.Tokens.{toks}
 use Rattle.paper.specs.Shape.{shapeOf}
 use Rattle.paper.specs.Rules.{ofTable}
 use Rattle.paper.specs.Judgement.{Answer, judge}
-use Rattle.paper.specs.Edits.{Request, Outcome, Edited, refused as rejected, done, outcome, edited, touchedBy, goodPiece, goodPlace, fits, formFault, answered, editing, editBy, edit}
+use Rattle.paper.specs.Edits.{Request, Outcome, Edited, refused as rejected, done, outcome, edited, touchedBy, Made, made, goodPiece, goodPlace, fits, formFault, answered, editing, editBy, edit}
 use Rattle.paper.specs.Answers.{Answers, editAnswers}
 use Rattle.paper.specs.Calls.{Performs}
 use Rattle.answer_laws.specs.Judged.{each, placed, Judged, judge-judged}
@@ -20,7 +20,7 @@ use Rattle.answer_laws.specs.Judged.{each, placed, Judged, judge-judged}
 -- a refusal's number and place
 abbrev Rejects : Edited → Type 0
 Rejects (rejected n p) = Answers editAnswers n p
-Rejects (done l) = Unit {0}
+Rejects (done m) = Unit {0}
 
 form-number : (room : ℕ) (q : Request) (doc : List ℕ) → T (elem (formFault room q doc) (0 ∷ 4 ∷ 5 ∷ 6 ∷ []))
 unfolding formFault
@@ -34,17 +34,17 @@ form-number room q doc =
     go true false c d = tt
     go false b c d = tt
 
-answered-rejects : (n : ℕ) (a : Answer) (new : List ℕ) → T (elem n (0 ∷ 4 ∷ 5 ∷ 6 ∷ [])) → Judged a → Rejects (answered n a new)
-answered-rejects zero a new t (inl e) = rw e tt
-answered-rejects zero a new t (inr j) = go (eqb (a .0) 0)
+answered-rejects : (n : ℕ) (a : Answer) (m : Made) → T (elem n (0 ∷ 4 ∷ 5 ∷ 6 ∷ [])) → Judged a → Rejects (answered n a m)
+answered-rejects zero a m t (inl e) = rw e tt
+answered-rejects zero a m t (inr j) = go (eqb (a .0) 0)
   where
-    go : (b : Bool) → Rejects (cond b (done new) (rejected (a .0) (a .1)))
+    go : (b : Bool) → Rejects (cond b (done m) (rejected (a .0) (a .1)))
     go true = tt
     go false = each (λ n. Answers editAnswers n (a .1)) placed (at 7 tt tt, (at 8 tt tt, (at 9 tt tt, (at 10 tt tt, (at 11 tt tt, (at 12 tt tt, tt)))))) (a .0) j
       where
         at : (n : ℕ) → T (elem n editAnswers) → T (between 7 12 n) → Answers editAnswers n (a .1)
         at n t b = record { one-of = t; no-place = λ c. absurd (c b) }
-answered-rejects (suc n) a new t j = record { one-of = each (λ k. T (elem k editAnswers)) (0 ∷ 4 ∷ 5 ∷ 6 ∷ []) (tt, (tt, (tt, (tt, tt)))) (suc n) t; no-place = λ c. refl }
+answered-rejects (suc n) a m t j = record { one-of = each (λ k. T (elem k editAnswers)) (0 ∷ 4 ∷ 5 ∷ 6 ∷ []) (tt, (tt, (tt, (tt, tt)))) (suc n) t; no-place = λ c. refl }
 
 pub edit-answers : (table buffer : List ℕ) (used : ℕ) (q : Request) (o : Outcome) → Performs table buffer used q o → Answers editAnswers (o .number) (o .place)
 unfolding edit editBy editing
@@ -53,7 +53,7 @@ edit-answers table buffer used q o e = finish (cond (proper table) (editBy (ofTa
     by-shape : (b : Bool) → Rejects (cond b (editing (ofTable table) (length buffer) q (take used buffer)) (rejected 4 0))
     by-shape true =
         answered-rejects (formFault (length buffer) q (take used buffer)) (judge (ofTable table) (touchedBy q (take used buffer)) (toks (edited q (take used buffer))))
-        (edited q (take used buffer)) (form-number (length buffer) q (take used buffer))
+        (made q (take used buffer)) (form-number (length buffer) q (take used buffer))
         (judge-judged (ofTable table) (touchedBy q (take used buffer)) (toks (edited q (take used buffer))))
     by-shape false = record { one-of = tt; no-place = λ c. refl }
 
@@ -63,4 +63,4 @@ edit-answers table buffer used q o e = finish (cond (proper table) (editBy (ofTa
 
     finish : (x : Edited) → Rejects x → o ≡ outcome buffer used x → Answers editAnswers (o .number) (o .place)
     finish (rejected n p) h e = let a : o .number ≡ n = cc in let b : o .place ≡ p = cc in rw (a, b) h
-    finish (done l) h e = let a : o .number ≡ 0 = cc in let b : o .place ≡ 0 = cc in rw (a, b) (record { one-of = tt; no-place = λ c. refl })
+    finish (done m) h e = let a : o .number ≡ 0 = cc in let b : o .place ≡ 0 = cc in rw (a, b) (record { one-of = tt; no-place = λ c. refl })

@@ -23,6 +23,7 @@ use Rattle.paper.specs.Judgement.{Answer, none-found, orElse, before, attribute
 use Rattle.paper_laws.specs.Basics.{find-some}
 use Rattle.table_laws.specs.Parts.{table-parts, block-parts, name-below}
 use Rattle.shape_laws.specs.Tree.{shape-tree}
+use Rattle.shape_laws.specs.Widths.{kids-given, kids-deeper}
 
 -- ---- the children of an element, along the tree
 
@@ -30,21 +31,6 @@ abbrev tops : Forest → List Tok
 tops nil = []
 tops (txt n f) = Text n ∷ tops f
 tops (elem n gs k f) = Start n ∷ tops f
-
-kids-values : (m : ℕ) (vs : List ℕ) (r : List Tok) → kids m (flatV vs r) ≡ kids m r
-kids-values m [] r = refl
-kids-values m (v ∷ vs) r = kids-values m vs r
-
-kids-given : (m : ℕ) (gs : List Given) (r : List Tok) → kids m (flatA gs r) ≡ kids m r
-kids-given m [] r = refl
-kids-given m (g ∷ gs) r = kids-values m (g .more) (flatA gs r) ∙ kids-given m gs r
-
--- what is in an element is not its parent's
-kids-deeper : (m : ℕ) (f : Forest) (r : List Tok) → kids (suc m) (flat f r) ≡ kids (suc m) r
-kids-deeper m nil r = refl
-kids-deeper m (txt n f) r = kids-deeper m f r
-kids-deeper m (elem n gs k f) r =
-    kids-given (suc (suc m)) gs (flat k (End ∷ flat f r)) ∙ kids-deeper (suc m) k (End ∷ flat f r) ∙ kids-deeper m f r
 
 kids-tops : (f : Forest) (r : List Tok) → kids zero (flat f (End ∷ r)) ≡ tops f
 kids-tops nil r = refl

@@ -12,7 +12,7 @@ use lib.ListN.{length, take, drop, getD, length-append, length-drop}
 use lib.Seq.{drop-drop}
 use Rattle.paper.specs.declared.Tok.{Tok}
 use Rattle.paper.specs.declared.Tok.the-variants.{Start, End, Text, Attr, Value, Bad}
-use Rattle.paper.specs.Tokens.{toks, close}
+use Rattle.paper.specs.Tokens.{toks, kids, close}
 use Rattle.paper.specs.Rules.{State}
 use Rattle.shape_laws.specs.Ends.{rest-none}
 use Rattle.shape_laws.specs.Bridge.{length-toks}
@@ -51,6 +51,16 @@ model-under b end s k i (Attr n ∷ r) = model-under b end s k (suc i) r ∙ fur
 model-under b end s k i (Value n ∷ r) = model-under b end s k (suc i) r ∙ further b end s i (close k r) r
 model-under b end s k i (Bad ∷ r) = model-under b end s k (suc i) r ∙ further b end s i (close k r) r
 
+kids-under : (k : ℕ) (r : List Tok) → kids (suc k) r ≡ kids zero (drop (suc (close k r)) r)
+kids-under k [] = refl
+kids-under k (Start n ∷ r) = kids-under (suc k) r
+kids-under zero (End ∷ r) = refl
+kids-under (suc k) (End ∷ r) = kids-under k r
+kids-under k (Text n ∷ r) = kids-under k r
+kids-under k (Attr n ∷ r) = kids-under k r
+kids-under k (Value n ∷ r) = kids-under k r
+kids-under k (Bad ∷ r) = kids-under k r
+
 -- the place behind the element that starts at place i, as the code reads it
 abbrev pub behind : List ℕ → ℕ → ℕ → ℕ
 behind closes used i = cond (ltb (i + 1) used) (getD closes (i + 1) 0 + 1) used
@@ -61,10 +71,11 @@ behind-end closes used i h = rw (lt-ltb (i + 1) used h)
 pub behind-last : (closes : List ℕ) (used i : ℕ) → used ≤ i + 1 → used ≡ behind closes used i
 behind-last closes used i h = rw (le-ltb (i + 1) used h)
 
--- it is further on, and what stands there are the next children: where they stop is the same
+-- it is further on, and what stands there are the next children: they are the same, and so is where they stop
 pub record Next (b doc : List ℕ) (used i r : ℕ) : Type 0 where
   pub on : i < r
   pub here : r ≤ used + 1
+  pub others : kids 1 (drop (suc i) (toks (take used doc))) ≡ kids zero (drop r (toks (take used doc)))
   pub same : (s : State) → modelStop b used s 1 (suc i) (drop (suc i) (toks (take used doc))) ≡ modelStop b used s zero r (drop r (toks (take used doc)))
 
 pub next-is : (b doc : List ℕ) (used : ℕ) (closes : List ℕ) → Closed doc used closes → used ≤ length doc → (i : ℕ) → i < used
@@ -76,10 +87,11 @@ next-is b doc used closes c l i h = elim (decLt (i + 1) used) [
       rw (← z) (record {
         on = omega arith;
         here = omega (arith, close-le zero (drop (suc i) d), length-drop (suc i) d, length-toks doc used l);
+        others = kids-under zero (drop (suc i) d) ∙ ap (kids zero) (drop-drop (suc (close zero (drop (suc i) d))) (suc i) d);
         same = λ s. model-under b used s zero (suc i) (drop (suc i) d)
             ∙ ap (modelStop b used s zero (suc i + suc (close zero (drop (suc i) d)))) (drop-drop (suc (close zero (drop (suc i) d))) (suc i) d);
       })
-  | no g ↦ let e : suc i ≡ used = omega arith in rw (← behind-last closes used i (omega arith)) (record { on = h; here = omega arith; same = λ s. rw (e, rest-none doc used) })
+  | no g ↦ let e : suc i ≡ used = omega arith in rw (← behind-last closes used i (omega arith)) (record { on = h; here = omega arith; others = rw (e, rest-none doc used); same = λ s. rw (e, rest-none doc used) })
 ]
   where
     d : List Tok

@@ -27,7 +27,7 @@ pub enum Stop {
 }
 
 // The place behind the element that starts at place i.
-fn behind(closes: &[u32], used: usize, i: usize) -> usize
+pub fn behind(closes: &[u32], used: usize, i: usize) -> usize
     requires { ⌜ (used ≤ length (now closes)) × (i < used) ⌝ }
     ensures { λ r. ⌜ r ≡ behind (now (closes .entry)) used i ⌝ }
 {

@@ -34,7 +34,7 @@ performs : (table buffer : List ℕ) (used : ℕ) (q : Request) → Allows shrik
 performs table buffer used q = let o : Outcome = edit table buffer used q in record {
   κs = ([], ([], ([], tt)));
   given = (lent table, (lent buffer, (used, (q .operation, (q .place, (lent (q .piece), tt))))));
-  result = record { number = o .number; place = o .place; used = o .used; change = o .change };
+  result = record { number = o .number; place = o .place; used = o .used; change = o .change; children = o .children };
   after = (lent table, (lent (o .buffer), (used, (q .operation, (q .place, (lent (q .piece), tt))))));
   its-input = refl;
   its-outcome = refl;

@@ -5,6 +5,7 @@ use Rattle.promises.specs.Calls.{Calls, Faithful}
 use Rattle.promises.specs.Statements as promised
 use Rattle.promises.specs.Dtd as dtd
 use Rattle.promises.specs.Inclusion as inclusion
+use Rattle.promises.specs.Cost as cost
 use Rattle.promises.specs.Theorems as proved
 use Rattle.promises.specs.DtdTheorems as texts
 use Rattle.shrikemuff.proofs.Contracts.{shrike-read, shrike-write, shrike-translate, shrike-check, shrike-edit, shrike-compare}
@@ -198,6 +199,11 @@ check-by-text = texts.check-by-text shrikes faithful
 
 pub demand-3-by-text : dtd.Demand3ByText shrikes
 demand-3-by-text = texts.demand-3-by-text shrikes faithful
+
+-- ---- item 10
+
+pub edit-cost-bounded : cost.EditCostBounded shrikes
+edit-cost-bounded = proved.edit-cost-bounded shrikes faithful
 
 -- ---- item 12
 

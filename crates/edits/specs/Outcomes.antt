@@ -1,5 +1,5 @@
 -- The answer with what it leaves, as the paper's outcome. Assumes nothing.
-use mathlib.Core.Path.{_≡_, refl, sym, ap, ap₂, _∙_}
+use mathlib.Core.Path.{_≡_, refl, sym, ap, ap₂, subst, _∙_}
 use mathlib.Core.Bool.{Bool, true, false, not, _&&_, and-eq-true-iff}
 use mathlib.Core.List.{List}
 use Prim.Native.Nat.{ℕ, zero, suc, _+_, _-_, _≤_}
@@ -7,7 +7,7 @@ use native.Mathlib.Omega.{arith}
 use borrow.Author.Tests.{leb-true, ne-eqb, not-true, not-false}
 use lib.Dec.{leb}
 use lib.IntN.{ℤ, pos, _-ℤ_}
-use lib.ListN.{length, take, length-take}
+use lib.ListN.{length, take, drop, length-take}
 use lib.Seq.{take-take, length-take-le}
 use Rattle.paper.specs.Basics.{mostTokens}
 use Rattle.paper.specs.Tokens.{toks, touched}
@@ -16,22 +16,25 @@ use Rattle.paper.specs.Table.{proper}
 use Rattle.paper.specs.Rules.{ofTable}
 use Rattle.paper.specs.Judgement.{judge}
 use Rattle.paper.specs.Judgement as judgement
-use Rattle.paper.specs.Edits.{Request, spliceAt, spliceCut, coming, edited, touchedBy, refused, done, answered, editing, Outcome, written, outcome, editBy, edit}
-use Rattle.shape_laws.specs.EditJudged.{Asked, form-iff, allowed-by}
-use Rattle.keys.specs.declared.Fault.{Fault}
+use Rattle.paper.specs.Edits.{Request, spliceAt, spliceCut, coming, edited, touchedBy, childrenOf, lookedAt, Made, made, refused, done, answered, editing, Outcome, written, outcome, editBy, edit}
+use Rattle.shape_laws.specs.EditJudged.{Asked, form-iff, allowed-by, coming-toks}
+use Rattle.shape_laws.specs.EditLooked.{piece-comes}
+use Rattle.shape_laws.specs.Widths.{Comes}
 use Rattle.edits.specs.declared.Answer.{Answer}
+use Rattle.edits.specs.declared.Finding.{Finding}
 use Rattle.form.specs.declared.Form.{Form}
 use Rattle.form.specs.Size.{size-is}
 use Rattle.form.specs.Form.{Formed, shaped, allowed-within}
-use Rattle.edits.specs.Written.{splice-front}
-use Rattle.shape_laws.specs.Bridge.{length-toks}
+use Rattle.edits.specs.Touched.{Found}
+use Rattle.edits.specs.Written.{splice-front, splice-piece}
+use Rattle.shape_laws.specs.Bridge.{length-toks, toks-drop}
 
 -- with the buffer
 abbrev pub outcomeOf : Answer → List ℕ → Outcome
-outcomeOf r b = record { number = r .number; place = r .place; used = r .used; change = r .change; buffer = b }
+outcomeOf r b = record { number = r .number; place = r .place; used = r .used; change = r .change; children = r .children; buffer = b }
 
 abbrev pub refusal : ℕ → ℕ → ℕ → Answer
-refusal number place used = record { number = number; place = place; used = used; change = pos 0 }
+refusal number place used = record { number = number; place = place; used = used; change = pos 0; children = 0 }
 
 -- ---- what holds of an edit in form
 
@@ -42,6 +45,7 @@ pub record Ready (buf : List ℕ) (used : ℕ) (r : Form) (after : List ℕ) : T
   pub long : r .used ≤ length after
   pub within : r .at + r .coming ≤ r .used
   pub front : take (r .at) (take (r .used) after) ≡ take (r .at) buf
+  pub comes : Comes (drop (r .at) (toks (take (r .at + r .coming) after)))
 
 module _ (op place : ℕ) (piece buf : List ℕ) (used : ℕ) where
   abbrev q : Request
@@ -67,14 +71,22 @@ module _ (op place : ℕ) (piece buf : List ℕ) (used : ℕ) where
       let p = f .place z in
       let c = f .come z in
       let t = ap length (f .tokens z) in
+      let inside : r .at + r .coming ≤ r .used = omega arith in
+      let piece-is : drop (r .at) (toks (take (r .at + r .coming) after)) ≡ coming op (toks piece)
+      = sym (toks-drop (r .at) (take (r .at + r .coming) after))
+      ∙ ap (λ l. toks (drop (r .at) l)) (sym (take-take (r .at + r .coming) (r .used) after inside) ∙ ap (take (r .at + r .coming)) (f .tokens z))
+      ∙ ap₂ (λ x y. toks (drop x (take (x + y) new))) p c
+      ∙ ap toks (splice-piece at cut (coming op piece) (take used buf) (omega (arith, length-take-le used buf (s .long))))
+      ∙ coming-toks q (take used buf) in
       record {
         old = s .few;
         few = omega arith;
         room = omega arith;
         long = omega (arith, length-take (r .used) after);
-        within = omega arith;
+        within = inside;
         front = ap₂ take p (f .tokens z) ∙ splice-front at cut (coming op piece) (take used buf) (omega (arith, length-take-le used buf (s .long)))
             ∙ take-take at used buf (omega arith) ∙ ap (λ k. take k buf) (sym p);
+        comes = subst Comes (sym piece-is) (piece-comes (length buf) q (take used buf) (s .one) a);
       }
 
   module _ {r : Form} {after : List ℕ} (sh : shapeOf buf used ≡ true) (f : Formed (length buf) q (take used buf) r after) (z : r .number ≡ 0) where
@@ -96,11 +108,14 @@ module _ (op place : ℕ) (piece buf : List ℕ) (used : ℕ) where
     pub ready-front : take (r .at) (take (r .used) after) ≡ take (r .at) buf
     ready-front = form-ready sh f z .front
 
+    pub ready-comes : Comes (drop (r .at) (toks (take (r .at + r .coming) after)))
+    ready-comes = form-ready sh f z .comes
+
   -- ---- the ways out
 
-  answered-form : (k : ℕ) (a : judgement.Answer) (new : List ℕ) → (k ≡ 0 → ⊥) → answered k a new ≡ refused k 0
-  answered-form zero a new h = absurd (h refl)
-  answered-form (suc k) a new h = refl
+  answered-form : (k : ℕ) (a : judgement.Answer) (m : Made) → (k ≡ 0 → ⊥) → answered k a m ≡ refused k 0
+  answered-form zero a m h = absurd (h refl)
+  answered-form (suc k) a m h = refl
 
   module _ (table : List ℕ) {r : Form} {after : List ℕ} (f : Formed (length buf) q (take used buf) r after) where
     pub edit-form : {x : Answer} → (r .number ≡ 0 → ⊥) → x ≡ refusal (r .number) 0 used
@@ -109,21 +124,20 @@ module _ (op place : ℕ) (piece buf : List ℕ) (used : ℕ) where
     edit-form h e =
         ap (λ y. outcomeOf y buf) e
         ∙ ap (outcome buf used)
-        (sym (ap (λ k. answered k (judge (ofTable table) (touchedBy q (take used buf)) (toks (edited q (take used buf)))) (edited q (take used buf))) (sym (f .number))
-        ∙ answered-form (r .number) (judge (ofTable table) (touchedBy q (take used buf)) (toks (edited q (take used buf)))) (edited q (take used buf)) h))
+        (sym (ap (λ k. answered k (judge (ofTable table) (touchedBy q (take used buf)) (toks (edited q (take used buf)))) (made q (take used buf))) (sym (f .number))
+        ∙ answered-form (r .number) (judge (ofTable table) (touchedBy q (take used buf)) (toks (edited q (take used buf)))) (made q (take used buf)) h))
 
-    module _ (z : r .number ≡ 0) {w : Fault}
-        (ew : (w .number, w .place) ≡ judge (ofTable table) (touched (r .at) (r .coming) (toks (take (r .used) after))) (toks (take (r .used) after))) where
+    module _ (z : r .number ≡ 0) {w : Finding} (ew : Found table after (r .used) (r .at) (r .coming) w) where
       fault-is : (w .number, w .place) ≡ judge (ofTable table) (touchedBy q (take used buf)) (toks (edited q (take used buf)))
       unfolding touchedBy
       fault-is =
-          ew
+          ew .fault
           ∙ ap₂ (λ x y. judge (ofTable table) (touched x y (toks (take (r .used) after))) (toks (take (r .used) after))) (f .place z) (f .come z)
           ∙ ap (λ l. judge (ofTable table) (touched (spliceAt op place (toks piece) (toks (take used buf))) (length (coming op piece)) (toks l)) (toks l)) (f .tokens z)
 
-      editing-is : answered 0 (w .number, w .place) (edited q (take used buf)) ≡ editing (ofTable table) (length buf) q (take used buf)
+      editing-is : answered 0 (w .number, w .place) (made q (take used buf)) ≡ editing (ofTable table) (length buf) q (take used buf)
       unfolding editing
-      editing-is = ap₂ (λ k a. answered k a (edited q (take used buf))) (sym z ∙ f .number) fault-is
+      editing-is = ap₂ (λ k a. answered k a (made q (take used buf))) (sym z ∙ f .number) fault-is
 
       pub edit-fault : {x : Answer} → (w .number ≡ 0 → ⊥) → x ≡ refusal (w .number) (w .place) used
           → outcomeOf x buf ≡ outcome buf used (editing (ofTable table) (length buf) q (take used buf))
@@ -131,15 +145,23 @@ module _ (op place : ℕ) (piece buf : List ℕ) (used : ℕ) where
           ap (λ y. outcomeOf y buf) e
           ∙ ap (outcome buf used) (rw (ne-eqb (w .number) 0 h) at editing-is)
 
+      looked-is : w .number ≡ 0 → w .children ≡ lookedAt q (take used buf)
+      unfolding lookedAt touchedBy
+      looked-is h =
+          ew .looked h
+          ∙ ap₂ (λ x y. childrenOf (touched x y (toks (take (r .used) after))) 0 (toks (take (r .used) after))) (f .place z) (f .come z)
+          ∙ ap (λ l. childrenOf (touched (spliceAt op place (toks piece) (toks (take used buf))) (length (coming op piece)) (toks l)) 0 (toks l)) (f .tokens z)
+
       pub edit-done : {after′ : List ℕ} {d : ℤ} → w .number ≡ 0 → after′ ≡ written buf used (take (r .used) after) → d ≡ pos (r .used) -ℤ pos used
-          → outcomeOf (record { number = 0; place = 0; used = r .used; change = d }) after′ ≡ outcome buf used (editing (ofTable table) (length buf) q (take used buf))
+          → outcomeOf (record { number = 0; place = 0; used = r .used; change = d; children = w .children }) after′
+          ≡ outcome buf used (editing (ofTable table) (length buf) q (take used buf))
       edit-done {after′} {d} h eb ed =
           let new : List ℕ = edited q (take used buf) in
-          let e : done new ≡ editing (ofTable table) (length buf) q (take used buf) = rw h at editing-is in
+          let e : done (made q (take used buf)) ≡ editing (ofTable table) (length buf) q (take used buf) = rw h at editing-is in
           let b : after′ ≡ written buf used new = eb ∙ ap (written buf used) (f .tokens z) in
           let n : r .used ≡ length new = f .size z in
-          ap₂ (λ y v. outcomeOf (record { number = 0; place = 0; used = r .used; change = y }) v) ed b
-          ∙ ap (λ k. outcomeOf (record { number = 0; place = 0; used = k; change = pos k -ℤ pos used }) (written buf used new)) n
+          ap₂ (λ y v. outcomeOf (record { number = 0; place = 0; used = r .used; change = y; children = w .children }) v) ed b
+          ∙ ap₂ (λ k c. outcomeOf (record { number = 0; place = 0; used = k; change = pos k -ℤ pos used; children = c }) (written buf used new)) n (looked-is h)
           ∙ ap (outcome buf used) e
 
   -- ---- the call

@@ -4,7 +4,7 @@ use mathlib.Core.List.{List, _++_, append-assoc}
 use Prim.Native.Nat.{ℕ, suc, _+_, _-_, _≤_, _<_, max}
 use native.Mathlib.Omega.{arith}
 use lib.ListN.{length, take, drop, getD, set, replicate, length-set, length-drop, length-replicate, getD-replicate}
-use lib.Seq.{paste, paste-zero, paste-suc, take-paste, drop-paste, take-length, take-take, take-add, take-at, drop-drop, length-take-le}
+use lib.Seq.{paste, paste-zero, paste-suc, take-paste, drop-paste, take-length, take-take, take-add, take-at, take-append-seam, drop-at, drop-drop, length-take-le}
 use Rattle.paper.specs.Edits.{splice, written}
 
 abbrev pub zeros : ℕ → List ℕ
@@ -61,6 +61,16 @@ module _ (b : List ℕ) (from to : ℕ) where
 -- of the edited tokens, those before the splice are as they were
 pub splice-front : (at n : ℕ) (p d : List ℕ) → at ≤ length d → take at (splice at n p d) ≡ take at d
 splice-front at n p d h = take-at (take at d) (p ++ drop (at + n) d) at (length-take-le at d h)
+
+-- and those of the piece stand there
+pub splice-piece : (at n : ℕ) (p d : List ℕ) → at ≤ length d → drop at (take (at + length p) (splice at n p d)) ≡ p
+splice-piece at n p d h =
+    let s : List ℕ = splice at n p d in
+    let l : length (take at s) ≡ at = ap length (splice-front at n p d h) ∙ length-take-le at d h in
+    ap (drop at) (take-add at (length p) s)
+    ∙ drop-at (take at s) (take (length p) (drop at s)) at l
+    ∙ ap (take (length p)) (drop-at (take at d) (p ++ drop (at + n) d) at (length-take-le at d h))
+    ∙ take-append-seam p (drop (at + n) d)
 
 -- the copy from the splice place on, and then the zeros
 pub put-written : (b s : List ℕ) (used at end : ℕ) {b₁ b₂ : List ℕ} → take at (take end s) ≡ take at b → at ≤ end → end ≤ length b → end ≤ length s

@@ -4,6 +4,7 @@
 // an edit that is done is written back. A refusal leaves the document as it was.
 // Assumes nothing.
 use copying::copy_tokens;
+use cost::looked_at;
 use form::form_of;
 use judge::element_fault;
 use judge::first_fault;
@@ -14,18 +15,19 @@ use places::parent_of;
 ghost use mathlib.Core.Path.{_≡_};
 ghost use mathlib.Core.Bool.{true};
 ghost use Prim.Native.Nat.{_+_, _≤_};
-ghost use lib.ListN.{length, take};
+ghost use lib.ListN.{length, take, drop};
 ghost use lib.IntN.{pos, _-ℤ_};
 ghost use Rattle.paper.specs.Basics.{mostTokens};
-ghost use Rattle.paper.specs.Tokens.{toks, touched};
+ghost use Rattle.paper.specs.Tokens.{toks};
 ghost use Rattle.paper.specs.Shape.{shapeOf};
 ghost use Rattle.paper.specs.Table.{proper};
 ghost use Rattle.paper.specs.Rules.{ofTable};
-ghost use Rattle.paper.specs.Judgement.{judge};
 ghost use Rattle.paper.specs.Edits.{editing, written, outcome, edit};
+ghost use Rattle.shape_laws.specs.Touch.{parentOf};
+ghost use Rattle.shape_laws.specs.Widths.{Comes};
 ghost use Rattle.children.specs.Closed.{Closed};
 ghost use Rattle.edits.specs.Written.{cleared};
-ghost use Rattle.edits.specs.Touched.{touchedFirst};
+ghost use Rattle.edits.specs.Touched.{touchedFirst, Found};
 ghost use Rattle.edits.specs.Outcomes.{outcomeOf, refusal};
 
 // Writes 0 from a place up to another.
@@ -66,13 +68,14 @@ fn touched_fault(
     closes: &[u32],
     at: usize,
     coming: usize,
+    parent: usize,
 ) -> Fault
     requires { ⌜ proper (now table) ≡ true ⌝ }
     requires { ⌜ Closed (now doc) used (now closes) ⌝ }
     requires { ⌜ (used ≤ length (now doc)) × (used ≤ mostTokens) × (at + coming ≤ used) ⌝ }
+    requires { ⌜ parent ≡ parentOf (toks (take at (now doc))) ⌝ }
     ensures { λ r. ⌜ (r .number, r .place) ≡ touchedFirst (now (table .entry)) (now (doc .entry)) used at coming ⌝ }
 {
-    let parent = parent_of(doc, at);
     if at <= parent {
         return first_fault(table, doc, used, closes, at, at + coming);
     }
@@ -83,27 +86,50 @@ fn touched_fault(
     first_fault(table, doc, used, closes, at, at + coming)
 }
 
-// "Then the edited document is judged as above": its first `used` tokens, at what is touched.
-fn judged(table: &[u64], doc: &[u32], used: usize, at: usize, coming: usize) -> Fault
+// What the judgement of an edited document gives: its first fault; where there is none, the number of children looked at.
+struct Finding {
+    number: u32,
+    place: u32,
+    children: u32,
+}
+
+// "Then the edited document is judged as above": its first `used` tokens, at what is touched. The piece is `coming` tokens at a place.
+fn judged(table: &[u64], doc: &[u32], used: usize, at: usize, coming: usize) -> Finding
     requires { ⌜ proper (now table) ≡ true ⌝ }
     requires { ⌜ (used ≤ length (now doc)) × (used ≤ mostTokens) × (at + coming ≤ used) ⌝ }
-    ensures { λ r. ⌜ (r .number, r .place) ≡ judge (ofTable (now (table .entry))) (touched at coming (toks (take used (now (doc .entry))))) (toks (take used (now (doc .entry)))) ⌝ }
+    requires { ⌜ Comes (drop at (toks (take (at + coming) (now doc)))) ⌝ }
+    ensures { λ r. ⌜ Found (now (table .entry)) (now (doc .entry)) used at coming r ⌝ }
 {
     let mut ends = [0u32; paper::MOST_TOKENS];
     closes(doc, used, &mut ends);
-    let elements = touched_fault(table, doc, used, &ends, at, coming);
-    judged_with(table, doc, used, elements)
+    let parent = parent_of(doc, at);
+    let elements = touched_fault(table, doc, used, &ends, at, coming, parent);
+    let fault = judged_with(table, doc, used, elements);
+    if fault.number != paper::DONE {
+        return Finding {
+            number: fault.number,
+            place: fault.place,
+            children: 0,
+        };
+    }
+    Finding {
+        number: fault.number,
+        place: fault.place,
+        children: looked_at(doc, used, &ends, at, coming, parent),
+    }
 }
 
-// "The answer has number, place, used length, and the change in length, a signed count that is negative when tokens went."
+// "The answer has number, place, used length, and the change in length, a signed count that is negative when tokens went." Item 10: "A done
+// edit reports the number of children looked at".
 pub struct Answer {
     pub number: u32,
     pub place: u32,
     pub used: usize,
     pub change: i32,
+    pub children: u32,
 }
 
-// "Refusals [..] give the old length and change 0."
+// "Refusals [..] give the old length and change 0." Item 10: "Refused edits report 0."
 fn refused(number: u32, place: u32, used: usize) -> Answer
     ensures { λ r. ⌜ r ≡ refusal number place used ⌝ }
 {
@@ -112,6 +138,7 @@ fn refused(number: u32, place: u32, used: usize) -> Answer
         place,
         used,
         change: 0,
+        children: 0,
     }
 }
 
@@ -134,9 +161,9 @@ fn edit_shaped(
     }
     let end = f.used;
     let at = f.at;
-    let fault = judged(table, &new, end, at, f.coming);
-    if fault.number != paper::DONE {
-        return refused(fault.number, fault.place, used);
+    let seen = judged(table, &new, end, at, f.coming);
+    if seen.number != paper::DONE {
+        return refused(seen.number, seen.place, used);
     }
     write(doc, used, &new, at, end);
     Answer {
@@ -144,6 +171,7 @@ fn edit_shaped(
         place: 0,
         used: end,
         change: change_of(used, end),
+        children: seen.children,
     }
 }
 

@@ -5,5 +5,7 @@ pub mod Places
 pub mod Splices
 -- The piece of an edit, as a part of a tree
 pub mod Pieces
+-- The children that an edit looks at
+pub mod Looked
 -- An edit makes the tokens of the tree that the edit rules make
 pub mod Edited

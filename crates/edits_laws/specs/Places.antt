@@ -7,27 +7,12 @@ use Prim.Native.Nat.{ℕ, zero, suc, _+_}
 use native.Mathlib.Omega.{arith}
 use lib.ListN.{length, drop, length-append}
 use Rattle.paper.specs.declared.Tok.{Tok}
-use Rattle.paper.specs.declared.Tok.the-variants.{Start, End, Text, Value}
+use Rattle.paper.specs.declared.Tok.the-variants.{Start, End, Text}
 use Rattle.paper.specs.Trees.{Given, Forest, nil, txt, elem, flatV, flatA, flat, IsTree}
 use Rattle.paper.specs.Edits.{opens, opensOrEnds, atHead}
 use Rattle.paper.specs.TreeEdits.{Hole, here, past-text, past-element, inside, fill, placeOf}
 use Rattle.basic_laws.specs.Bools.{clash}
-
--- ---- the tokens of a part, and what comes after it
-
-flatV-append : (vs : List ℕ) (a r : List Tok) → flatV vs (a ++ r) ≡ flatV vs a ++ r
-flatV-append [] a r = refl
-flatV-append (v ∷ vs) a r = ap (λ z. Value v ∷ z) (flatV-append vs a r)
-
-pub flatA-append : (gs : List Given) (a r : List Tok) → flatA gs (a ++ r) ≡ flatA gs a ++ r
-flatA-append [] a r = refl
-flatA-append (g ∷ gs) a r = rw (flatA-append gs a r, flatV-append (g .more) (flatA gs a) r)
-
-pub flat-append : (f : Forest) (a r : List Tok) → flat f (a ++ r) ≡ flat f a ++ r
-flat-append nil a r = refl
-flat-append (txt n f) a r = ap (λ z. Text n ∷ z) (flat-append f a r)
-flat-append (elem n gs k f) a r =
-    rw (flat-append f a r, flat-append k (End ∷ flat f a) r, flatA-append gs (flat k (End ∷ flat f a)) r)
+use Rattle.shape_laws.specs.Tree.{flatA-append, flat-append}
 
 -- ---- the tokens around a place
 

@@ -16,7 +16,8 @@ use Rattle.paper.specs.Trees.{Given, Forest, nil, txt, elem, flatV, flatA, flat
 use Rattle.paper.specs.Edits.{splice}
 use Rattle.paper.specs.TreeEdits.{Hole, fill, placeOf, One, text, element, setGiven, dropGiven}
 use Rattle.basic_laws.specs.Bools.{clash}
-use Rattle.edits_laws.specs.Places.{flatA-append, flat-append, before, after, flat-fill, before-length}
+use Rattle.shape_laws.specs.Tree.{flatA-append, flat-append}
+use Rattle.edits_laws.specs.Places.{before, after, flat-fill, before-length}
 
 pub splice-cons : (t : Tok) (l p : List Tok) (s n : ℕ) → splice (suc s) n p (t ∷ l) ≡ t ∷ splice s n p l
 splice-cons t l p s n = rw suc-add

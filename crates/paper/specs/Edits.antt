@@ -8,7 +8,7 @@ use lib.IntN.{ℤ, pos, _-ℤ_}
 use Rattle.paper.specs.declared.Tok.{Tok}
 use Rattle.paper.specs.declared.Tok.the-variants.{Start, End, Text, Attr, Value, Bad}
 use Rattle.paper.specs.Basics.{mostTokens, between, null}
-use Rattle.paper.specs.Tokens.{toks, isStart, itemSize, values, slot, held, touched}
+use Rattle.paper.specs.Tokens.{toks, kids, starts, isStart, itemSize, values, slot, held, touched}
 use Rattle.paper.specs.Shape.{isElement, shallow, shapeOf}
 use Rattle.paper.specs.Table.{proper}
 use Rattle.paper.specs.Rules.{Rules, ofTable}
@@ -142,13 +142,35 @@ unfoldable pub touchedBy : Request → List ℕ → ℕ → Bool
 touchedBy q doc =
     touched (spliceAt (q .operation) (q .place) (toks (q .piece)) (toks doc)) (length (coming (q .operation) (q .piece))) (toks (edited q doc))
 
+-- ---- the children looked at
+
+-- Item 10: "children and texts of the touched parent (or of the set or dropped element) in the edited document, plus those of every element
+-- in the piece": of the elements that start at a touched place; d's first token is at place i. "a replaced root has no parent, which
+-- counts 0".
+abbrev pub childrenOf : (touched : ℕ → Bool) → ℕ → List Tok → ℕ
+childrenOf touched i [] = 0
+childrenOf touched i (t ∷ d) = cond (touched i && starts t) (length (kids zero d)) 0 + childrenOf touched (suc i) d
+
+-- "the number of children looked at"
+unfoldable pub lookedAt : Request → List ℕ → ℕ
+lookedAt q doc = childrenOf (touchedBy q doc) 0 (toks (edited q doc))
+
 -- ---- the answer
+
+-- what a done edit makes
+pub record Made : Type 0 where
+  -- the document's tokens after the edit
+  pub tokens : List ℕ
+  -- Item 10: "A done edit reports the number of children looked at"
+  pub children : ℕ
+
+abbrev pub made : Request → List ℕ → Made
+made q doc = record { tokens = edited q doc; children = lookedAt q doc }
 
 pub data Edited : Type 0 where
   -- number and place
   refused : ℕ → ℕ → Edited
-  -- the document's tokens after the edit
-  done : List ℕ → Edited
+  done : Made → Edited
 
 -- "result over 8,192 tokens, over 64 deep or over the buffer (5)"
 abbrev pub fits : ℕ → List ℕ → Bool
@@ -167,32 +189,39 @@ formFault room q doc =
     6
 
 -- the first fault, of form or of the judgement; else the edit is done
-abbrev pub answered : ℕ → Answer → List ℕ → Edited
-answered zero a new = cond (eqb (a .0) 0) (done new) (refused (a .0) (a .1))
-answered (suc n) a new = refused (suc n) 0
+abbrev pub answered : ℕ → Answer → Made → Edited
+answered zero a m = cond (eqb (a .0) 0) (done m) (refused (a .0) (a .1))
+answered (suc n) a m = refused (suc n) 0
 
 -- "Then the edited document is judged as above"
 unfoldable pub editing : Rules → ℕ → Request → List ℕ → Edited
-editing R room q doc = answered (formFault room q doc) (judge R (touchedBy q doc) (toks (edited q doc))) (edited q doc)
+editing R room q doc = answered (formFault room q doc) (judge R (touchedBy q doc) (toks (edited q doc))) (made q doc)
 
 -- "The answer has number, place, used length, and the change in length, a signed count that is negative when tokens went."
--- With it, every place of the buffer.
+-- With them, the children looked at, and every place of the buffer.
 pub record Outcome : Type 0 where
   pub number : ℕ
   pub place : ℕ
   pub used : ℕ
   pub change : ℤ
+  pub children : ℕ
   pub buffer : List ℕ
 
 -- "Done: places from the new length to the old hold 0, later ones are untouched."
 abbrev pub written : List ℕ → ℕ → List ℕ → List ℕ
 written buffer used new = new ++ (replicate (used - length new) 0 ++ drop (max used (length new)) buffer)
 
--- "Refusals leave everything lent as it was; an edit's gives the old length and change 0."
+-- "Refusals leave everything lent as it was; an edit's gives the old length and change 0." Item 10: "Refused edits report 0."
 abbrev pub outcome : List ℕ → ℕ → Edited → Outcome
-outcome buffer used (refused n p) = record { number = n; place = p; used = used; change = pos 0; buffer = buffer }
-outcome buffer used (done new) =
-    record { number = 0; place = 0; used = length new; change = pos (length new) -ℤ pos used; buffer = written buffer used new }
+outcome buffer used (refused n p) = record { number = n; place = p; used = used; change = pos 0; children = 0; buffer = buffer }
+outcome buffer used (done m) = record {
+  number = 0;
+  place = 0;
+  used = length (m .tokens);
+  change = pos (length (m .tokens)) -ℤ pos used;
+  children = m .children;
+  buffer = written buffer used (m .tokens);
+}
 
 -- "Order: table (13); document shape (4); [the rest]"
 unfoldable pub editBy : Rules → (buffer : List ℕ) → (used : ℕ) → Request → Edited

@@ -132,3 +132,32 @@ stopping =
 pub all-stop : all stopsAt stopping ≡ true
 unfolding all-open
 all-stop = refl
+
+-- ---- what an edit cost
+
+-- an edit of the small shade, and the children looked at
+abbrev pub costs : Parsed Schema → (Request × ℕ) → Bool
+costs (stop k) x = false
+costs (ok s r) x =
+    eqb (outcome buffer 15 (editBy (ofSchema s) buffer 15 (x .0)) .children) (x .1) && eqb (edit (tableOf s) buffer 15 (x .0) .children) (x .1)
+
+-- The use goes: the shade is left with a panel. The row's text goes: nothing is left in it; another comes: the text alone, which has none of
+-- its own. A panel comes, with nothing in it; the panel is replaced by one with a row that has a text. The shade is replaced by itself: it has
+-- no parent. The panel's ID is set, and the title: the children of that element. What is refused reports 0.
+abbrev pub costing : List (Request × ℕ)
+costing =
+    (record { operation = 2; place = 10; piece = [] }, 1)
+    ∷ (record { operation = 2; place = 7; piece = [] }, 0)
+    ∷ (record { operation = 3; place = 7; piece = 251 ∷ [] }, 1)
+    ∷ (record { operation = 1; place = 10; piece = 9 ∷ 12 ∷ 173 ∷ 2 ∷ [] }, 3)
+    ∷ (record { operation = 3; place = 3; piece = 9 ∷ 12 ∷ 165 ∷ 17 ∷ 251 ∷ 2 ∷ 2 ∷ [] }, 4)
+    ∷ (record { operation = 3; place = 0; piece = small }, 4)
+    ∷ (record { operation = 4; place = 3; piece = 12 ∷ 165 ∷ [] }, 1)
+    ∷ (record { operation = 4; place = 0; piece = 4 ∷ 69 ∷ [] }, 2)
+    ∷ (record { operation = 2; place = 3; piece = [] }, 0)
+    ∷ (record { operation = 5; place = 3; piece = 12 ∷ [] }, 0)
+    ∷ []
+
+pub all-cost : all (costs (schemaOf (fileOf shade))) costing ≡ true
+unfolding all-open
+all-cost = refl

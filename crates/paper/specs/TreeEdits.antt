@@ -1,5 +1,5 @@
 -- "The five edits", told on the tree: what each does to the elements, attributes and texts that the tokens are. That a done edit
--- leaves the tokens of that tree is a promise. Assumes nothing.
+-- leaves the tokens of that tree, and reports the children looked at in it, is a promise. Assumes nothing.
 use mathlib.Core.Path.{_≡_}
 use mathlib.Core.Bool.{cond}
 use mathlib.Core.List.{List, [], _∷_}
@@ -73,3 +73,33 @@ pub data TreeEdit (q : Request) : Forest → Forest → Type 0 where
   drop : q .operation ≡ 5 → (a : ℕ) → toks (q .piece) ≡ Attr a ∷ []
       → (h : Hole) (n : ℕ) (gs : List Given) (k f : Forest) → q .place ≡ placeOf h
       → TreeEdit q (fill h (elem n gs k f)) (fill h (elem n (dropGiven a gs) k f))
+
+-- ---- the children looked at
+
+-- the children and texts of an element that has this row in it
+abbrev pub width : Forest → ℕ
+width nil = 0
+width (txt n f) = suc (width f)
+width (elem n gs k f) = suc (width f)
+
+-- those of every element of a row
+abbrev pub widths : Forest → ℕ
+widths nil = 0
+widths (txt n f) = widths f
+widths (elem n gs k f) = width k + (widths k + widths f)
+
+-- those of the element in which the place lies, with the row f there; `top` where it lies in none
+abbrev pub around : Hole → Forest → (top : ℕ) → ℕ
+around here f top = top
+around (past-text n h) f top = around h f top
+around (past-element n gs k h) f top = around h f top
+around (inside n gs h r) f top = around h f (width (fill h f))
+
+-- Item 10: "children and texts of the touched parent (or of the set or dropped element) in the edited document, plus those of every element
+-- in the piece; a replaced root has no parent, which counts 0"
+abbrev pub looked : {q : Request} {old new : Forest} → TreeEdit q old new → ℕ
+looked (insert {p} o one e h f a) = around h (p f) 0 + widths (p nil)
+looked (remove o one h f a) = around h f 0
+looked (replace {p} o one e x h f a) = around h (p f) 0 + widths (p nil)
+looked (set o g e h n gs k f a) = width k
+looked (drop o m e h n gs k f a) = width k

@@ -16,7 +16,7 @@ use Rattle.paper.specs.Table.{tableLength, translated, translate, proper}
 use Rattle.paper.specs.Shape.{shapeOf}
 use Rattle.paper.specs.Rules.{Rules, ofTable}
 use Rattle.paper.specs.Judgement.{Answer, judge}
-use Rattle.paper.specs.Edits.{Request, Outcome, Edited, refused as rejected, done, outcome, edited, touchedBy, formFault, answered, editing, editBy, written, edit}
+use Rattle.paper.specs.Edits.{Request, Outcome, Edited, refused as rejected, done, outcome, Made, made as paper-made, touchedBy, formFault, answered, editing, editBy, written, edit}
 use Rattle.paper.specs.Tokens.{toks}
 use Rattle.paper.specs.Dtd.Numbering.{namesOf}
 use Rattle.paper.specs.Dtd.Imported.{declared, worded, schemaFile, import, names}
@@ -77,25 +77,25 @@ translate-keeps file table o e n = by-length (eqb (length table) tableLength) e
 
 -- ---- an edit: a refusal has a number that is not 0, and what is done is the edited document
 
-abbrev Settled : (new : List ℕ) → Edited → Type 0
-Settled new (rejected n p) = n ≢ 0
-Settled new (done l) = l ≡ new
+abbrev Settled : (m : Made) → Edited → Type 0
+Settled m (rejected n p) = n ≢ 0
+Settled m (done x) = x ≡ m
 
-answered-settled : (n : ℕ) (a : Answer) (new : List ℕ) → Settled new (answered n a new)
-answered-settled zero a new = go (eqb (a .0) 0) refl
+answered-settled : (n : ℕ) (a : Answer) (m : Made) → Settled m (answered n a m)
+answered-settled zero a m = go (eqb (a .0) 0) refl
   where
-    go : (b : Bool) → eqb (a .0) 0 ≡ b → Settled new (cond b (done new) (rejected (a .0) (a .1)))
+    go : (b : Bool) → eqb (a .0) 0 ≡ b → Settled m (cond b (done m) (rejected (a .0) (a .1)))
     go true e = refl
     go false e = eqb-false (a .0) 0 e
-answered-settled (suc n) a new = λ z. absurd (omega arith)
+answered-settled (suc n) a m = λ z. absurd (omega arith)
 
 module _ (table buffer : List ℕ) (used : ℕ) (q : Request) where
-  abbrev new : List ℕ
-  new = edited q (take used buffer)
+  abbrev new : Made
+  new = paper-made q (take used buffer)
 
   by-shape : (R : Rules) (b : Bool) → Settled new (cond b (editing R (length buffer) q (take used buffer)) (rejected 4 0))
   unfolding editing
-  by-shape R true = answered-settled (formFault (length buffer) q (take used buffer)) (judge R (touchedBy q (take used buffer)) (toks new)) new
+  by-shape R true = answered-settled (formFault (length buffer) q (take used buffer)) (judge R (touchedBy q (take used buffer)) (toks (new .tokens))) new
   by-shape R false = λ z. absurd (omega arith)
 
   by-table : (b : Bool) → Settled new (cond b (editBy (ofTable table) buffer used q) (rejected 13 0))
@@ -104,14 +104,15 @@ module _ (table buffer : List ℕ) (used : ℕ) (q : Request) where
   by-table false = λ z. absurd (omega arith)
 
   outcome-keeps : (x : Edited) → Settled new x → (o : Outcome) → o ≡ outcome buffer used x → o .number ≢ 0 → Kept buffer used o
-  outcome-keeps (rejected n p) s o e d = (cc, cc, cc)
-  outcome-keeps (done l) s o e d = absurd (d (cc))
+  outcome-keeps (rejected n p) s o e d = (cc, cc, cc, cc)
+  outcome-keeps (done m) s o e d = absurd (d (cc))
 
   outcome-leaves : (x : Edited) → Settled new x → (o : Outcome) → o ≡ outcome buffer used x → o .number ≡ 0 → Left buffer used q o
   outcome-leaves (rejected n p) s o e z = absurd (s (cc))
-  outcome-leaves (done l) s o e z =
-      let at-l : (o .place ≡ 0) × (o .used ≡ length l) × (o .change ≡ pos (length l) -ℤ pos used) × (o .buffer ≡ written buffer used l) = (cc, cc, cc, cc) in
-      rw s at at-l
+  outcome-leaves (done m) s o e z =
+      let l : List ℕ = m .tokens in
+      let at-m : (o .place ≡ 0) × (o .used ≡ length l) × (o .change ≡ pos (length l) -ℤ pos used) × (o .buffer ≡ written buffer used l) × (o .children ≡ m .children) = (cc, cc, cc, cc, cc) in
+      rw s at at-m
 
 pub edit-keeps : EditKeeps papers
 unfolding edit

@@ -13,6 +13,9 @@ pub mod Imported
 pub mod Inclusion
 pub mod Compared
 pub mod Pointing
+-- Item 10: what is promised, and its proof
+pub mod Cost
+pub mod Costing
 pub mod Theorems
 pub mod DtdTheorems
 pub mod Example

@@ -11,7 +11,7 @@ use Rattle.paper.specs.Tokens.{toks}
 use Rattle.paper.specs.Shape.{shapeOf}
 use Rattle.paper.specs.Rules.{ofTable}
 use Rattle.paper.specs.Judgement.{judge}
-use Rattle.paper.specs.Edits.{Request, Outcome, refused, outcome, edited, touchedBy, formFault, answered, editing, editBy, edit, written}
+use Rattle.paper.specs.Edits.{Request, Outcome, refused, outcome, edited, touchedBy, made, formFault, answered, editing, editBy, edit, written}
 use Rattle.shape_laws.specs.EditJudged.{form-iff}
 use Rattle.edits_laws.specs.Edited.{edited-tree}
 use Rattle.promises.specs.Calls.{papers}
@@ -21,12 +21,12 @@ use Rattle.promises.specs.Always.{edit-leaves}
 
 -- what was done had shape and was in form
 module _ (table buffer : List ℕ) (used : ℕ) (q : Request) (o : Outcome) where
-  done-form : o ≡ edit table buffer used q → o .number ≡ 0 → (shapeOf buffer used ≡ true) × InForm buffer used q
+  pub done-form : o ≡ edit table buffer used q → o .number ≡ 0 → (shapeOf buffer used ≡ true) × InForm buffer used q
   unfolding edit editBy editing
   done-form e z = by-table (proper table) e
     where
       by-form : (k : ℕ) → formFault (length buffer) q (take used buffer) ≡ k
-          → o ≡ outcome buffer used (answered k (judge (ofTable table) (touchedBy q (take used buffer)) (toks (edited q (take used buffer)))) (edited q (take used buffer)))
+          → o ≡ outcome buffer used (answered k (judge (ofTable table) (touchedBy q (take used buffer)) (toks (edited q (take used buffer)))) (made q (take used buffer)))
           → formFault (length buffer) q (take used buffer) ≡ 0
       by-form zero f e = f
       by-form (suc k) f e = let n : o .number ≡ suc k = cc in absurd (omega arith)
@@ -47,8 +47,8 @@ used-tokens buffer used new = take-at new (replicate (used - length new) 0 ++ dr
 pub edit-on-tree : EditIsTreeEdit papers
 edit-on-tree table buffer used q o e z =
     let (s, f) = done-form table buffer used q o e z in
-    let (p, u, c, b) = edit-leaves table buffer used q o e z in
+    let (p, u, c, b, k) = edit-leaves table buffer used q o e z in
     let doc : List ℕ = take used buffer in
-    let (old, new, was, made, is) = edited-tree (length buffer) q doc (shape-element buffer used s) (form-iff (length buffer) q doc .0 f) in
+    let (old, new, was, t, is, n) = edited-tree (length buffer) q doc (shape-element buffer used s) (form-iff (length buffer) q doc .0 f) in
     let same : take (o .used) (o .buffer) ≡ edited q doc = rw (u, b) (used-tokens buffer used (edited q doc)) in
-    (old, new, was, made, ap toks same ∙ is)
+    (old, new, was, t, ap toks same ∙ is, k ∙ n)

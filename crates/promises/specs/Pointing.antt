@@ -16,7 +16,7 @@ use Rattle.paper.specs.Schema.{Schema}
 use Rattle.paper.specs.Rules.{Rules, ofSchema, ofTable}
 use Rattle.paper.specs.Judgement.{Answer, none-found, orElse, before, attributesGood, contentGood, contentBegun, stopAfter, elementFault, faultAt, first, placeOf, rootFault, keyFault, judge, whole, checking}
 use Rattle.paper.specs.Validity.{PointsAt}
-use Rattle.paper.specs.Edits.{Request, Outcome, refused, done, outcome, edited, touchedBy, goodPiece, goodPlace, fits, formFault, answered, editing, editBy}
+use Rattle.paper.specs.Edits.{Request, Outcome, refused, done, outcome, edited, touchedBy, made, goodPiece, goodPlace, fits, formFault, answered, editing, editBy}
 use Rattle.judge_laws.specs.Contents.{content-iff}
 use Rattle.judge_laws.specs.Begun.{stops-means}
 use Rattle.judge_laws.specs.ByRun.{table-stops}
@@ -175,10 +175,10 @@ module _ (s : Schema) where
     other : (k p : ℕ) → k ≢ 9 → o ≡ outcome buffer used (refused k p) → Here
     other k p m e = absurd (m (sym (ap (λ (x : Outcome). x .number) e) ∙ n))
 
-    by-judge : o ≡ outcome buffer used (answered 0 judged (edited q (take used buffer))) → Here
+    by-judge : o ≡ outcome buffer used (answered 0 judged (made q (take used buffer))) → Here
     by-judge e = go (eqb (judged .0) 0) e
       where
-        go : (b : Bool) → o ≡ outcome buffer used (cond b (done (edited q (take used buffer))) (refused (judged .0) (judged .1))) → Here
+        go : (b : Bool) → o ≡ outcome buffer used (cond b (done (made q (take used buffer))) (refused (judged .0) (judged .1))) → Here
         go true e = let z : o .number ≡ 0 = ap (λ (x : Outcome). x .number) e in absurd (omega arith)
         go false e =
             points (touchedBy q (take used buffer)) (toks (edited q (take used buffer))) (o .place)
@@ -190,7 +190,7 @@ module _ (s : Schema) where
         go (between 1 5 (q .operation)) (goodPiece (q .operation) (toks (q .piece))) (goodPlace (q .operation) (q .place) (toks (q .piece)) (toks (take used buffer)))
         (fits (length buffer) (edited q (take used buffer))) e
       where
-        go : (a b c d : Bool) → o ≡ outcome buffer used (answered (cond a (cond b (cond c (cond d 0 5) 6) 4) 6) judged (edited q (take used buffer))) → Here
+        go : (a b c d : Bool) → o ≡ outcome buffer used (answered (cond a (cond b (cond c (cond d 0 5) 6) 4) 6) judged (made q (take used buffer))) → Here
         go true true true true e = by-judge e
         go true true true false e = other 5 0 (λ z. omega arith) e
         go true true false d e = other 6 0 (λ z. omega arith) e

@@ -19,7 +19,7 @@ use Rattle.paper.specs.Shape.{shallow, shapeOf}
 use Rattle.paper.specs.Rules.{Rules, ofSchema}
 use Rattle.paper.specs.Judgement.{Answer, none-found, orElse, before, rootFault, elementFault, first, placeOf, repeated, dangling, idsOf, refsOf, valueIn, keyFault, judge, whole, checking}
 use Rattle.paper.specs.Validity.{ValidDocument}
-use Rattle.paper.specs.Edits.{Request, Outcome, refused, done, outcome, edited, touchedBy, formFault, answered, editing, editBy, written}
+use Rattle.paper.specs.Edits.{Request, Outcome, refused, done, outcome, edited, touchedBy, Made, made, formFault, answered, editing, editBy, written}
 use Rattle.shape_laws.specs.EditJudged.{Asked, form-iff, judged-whole, asked-shape}
 use Rattle.promises.specs.Calls.{papers}
 use Rattle.promises.specs.Statements.{Translated, Kept, Left, InForm, Right, EachRight, Runs}
@@ -57,18 +57,18 @@ judge-neat R J d =
 -- ---- the answer to an edit in form
 
 -- what becomes of an edit in form, where a is the judgement of the edited document
-module _ (buffer : List ℕ) (used : ℕ) (a : Answer) (new : List ℕ) (o : Outcome) (e : o ≡ outcome buffer used (answered 0 a new)) where
+module _ (buffer : List ℕ) (used : ℕ) (a : Answer) (m : Made) (o : Outcome) (e : o ≡ outcome buffer used (answered 0 a m)) where
   answer-done : (o .number ≡ 0) ↔ (a .0 ≡ 0)
   answer-done = go (eqb (a .0) 0) refl e
     where
-      go : (b : Bool) → eqb (a .0) 0 ≡ b → o ≡ outcome buffer used (cond b (done new) (refused (a .0) (a .1))) → (o .number ≡ 0) ↔ (a .0 ≡ 0)
+      go : (b : Bool) → eqb (a .0) 0 ≡ b → o ≡ outcome buffer used (cond b (done m) (refused (a .0) (a .1))) → (o .number ≡ 0) ↔ (a .0 ≡ 0)
       go true f e = (λ z. eqb-true (a .0) 0 f, λ z. cc)
       go false f e = (λ z. cc, λ z. absurd (eqb-false (a .0) 0 f z))
 
   answer-place : o .number ≢ 0 → (o .number, o .place) ≡ a
   answer-place n = go (eqb (a .0) 0) e
     where
-      go : (b : Bool) → o ≡ outcome buffer used (cond b (done new) (refused (a .0) (a .1))) → (o .number, o .place) ≡ a
+      go : (b : Bool) → o ≡ outcome buffer used (cond b (done m) (refused (a .0) (a .1))) → (o .number, o .place) ≡ a
       go true e = absurd (n (cc))
       go false e = rw e refl
 
@@ -121,9 +121,9 @@ module _ (s : Schema) (valid-iff : (buffer : List ℕ) (used : ℕ) → (checkin
       unfolding checking
       new-checked = rw (new-shape, take-length new)
 
-      made : o ≡ outcome buffer used (answered 0 (checking (ofSchema s) new (length new)) new)
+      answer : o ≡ outcome buffer used (answered 0 (checking (ofSchema s) new (length new)) (made q doc))
       unfolding editing
-      made =
+      answer =
           by-form
           ∙ rw (f, new-checked, judged-whole (ofSchema s) (length buffer) q doc (shape-element buffer used (v .shape)) asked no-fault)
 
@@ -132,7 +132,7 @@ module _ (s : Schema) (valid-iff : (buffer : List ℕ) (used : ℕ) → (checkin
 
       exactly : (o .number ≡ 0) ↔ ValidDocument s new (length new)
       exactly =
-          let d = answer-done buffer used (checking (ofSchema s) new (length new)) new o made in
+          let d = answer-done buffer used (checking (ofSchema s) new (length new)) (made q doc) o answer in
           let c = valid-iff new (length new) in
           (λ z. c .0 (d .0 z), λ w. d .1 (c .1 w))
 
@@ -141,7 +141,7 @@ module _ (s : Schema) (valid-iff : (buffer : List ℕ) (used : ℕ) → (checkin
     form-refused n = go (formFault (length buffer) q doc) refl by-form
       where
         go : (k : ℕ) → formFault (length buffer) q doc ≡ k
-            → o ≡ outcome buffer used (answered k (judge (ofSchema s) (touchedBy q doc) (toks new)) new)
+            → o ≡ outcome buffer used (answered k (judge (ofSchema s) (touchedBy q doc) (toks new)) (made q doc))
             → (o .number ≡ k) × (o .place ≡ 0)
         go zero f e = absurd (n f)
         go (suc k) f e = (cc, cc)
@@ -149,10 +149,10 @@ module _ (s : Schema) (valid-iff : (buffer : List ℕ) (used : ℕ) → (checkin
     -- the document after the edit, where the edit is done as Left says, or kept
     still-valid : (o .number ≢ 0 → Kept buffer used o) → (o .number ≡ 0 → Left buffer used q o) → ValidDocument s (o .buffer) (o .used)
     still-valid keeps leaves = elim (ℕ-discrete (o .number) 0) [
-      | no n ↦ let (u, c, b) = keeps n in rw (u, b) v
+      | no n ↦ let (u, c, k, b) = keeps n in rw (u, b) v
       | yes z ↦ elim (ℕ-discrete (formFault (length buffer) q doc) 0) [
         | yes f ↦
-            let (p, u, c, b) = leaves z in
+            let (p, u, c, b, k) = leaves z in
             rw (u, b) (written-valid buffer used new (shape-long buffer used (v .shape)) (new-fits f) s (exactly f .0 z))
         | no n ↦ absurd (n (sym (form-refused n .0) ∙ z))
       ]
@@ -161,7 +161,7 @@ module _ (s : Schema) (valid-iff : (buffer : List ℕ) (used : ℕ) → (checkin
     right : (o .number ≢ 0 → Kept buffer used o) → (o .number ≡ 0 → Left buffer used q o) → Right s buffer used q o
     right keeps leaves = record {
       done-exactly = exactly;
-      number-place = λ f. answer-place buffer used (checking (ofSchema s) new (length new)) new o (made f);
+      number-place = λ f. answer-place buffer used (checking (ofSchema s) new (length new)) (made q doc) o (answer f);
       not-in-form = form-refused;
       kept = keeps;
       left = leaves;

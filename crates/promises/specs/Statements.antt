@@ -20,11 +20,11 @@ use Rattle.paper.specs.Table.{tableLength, tableOf, proper}
 use Rattle.paper.specs.Tokens.{toks, kids, close, childAt}
 use Rattle.paper.specs.Shape.{isElement, shapeOf}
 use Rattle.paper.specs.Trees.{Forest, flat, IsTree, InShape}
-use Rattle.paper.specs.TreeEdits.{TreeEdit}
+use Rattle.paper.specs.TreeEdits.{TreeEdit, looked}
 use Rattle.paper.specs.Rules.{ofSchema, ofTable}
 use Rattle.paper.specs.Judgement.{Answer, contentGood, contentBegun, judge, checking}
 use Rattle.paper.specs.Validity.{ValidDocument, Points, Begun, PointsAt}
-use Rattle.paper.specs.Edits.{Request, Outcome, edited, formFault, written}
+use Rattle.paper.specs.Edits.{Request, Outcome, edited, lookedAt, formFault, written}
 use Rattle.paper.specs.Answers.{Answers, readerAnswers, writerAnswers, translatorAnswers, checkAnswers, editAnswers}
 use Rattle.promises.specs.Calls.{Calls}
 
@@ -98,16 +98,16 @@ AmbiguousExactly = (file : List ℕ) → Bytes file → (schemaOf file ≡ stop 
 
 -- ---- an edit
 
--- "an edit's gives the old length and change 0"
+-- "an edit's gives the old length and change 0"; item 10: "Refused edits report 0."
 abbrev pub Kept : (buffer : List ℕ) → (used : ℕ) → Outcome → Type 0
-Kept buffer used o = (o .used ≡ used) × (o .change ≡ pos 0) × (o .buffer ≡ buffer)
+Kept buffer used o = (o .used ≡ used) × (o .change ≡ pos 0) × (o .children ≡ 0) × (o .buffer ≡ buffer)
 
 -- "A done edit leaves exactly the tree of the edit rules": the tokens of the edited document, their number, the change, and 0 up to
--- the old length
+-- the old length; item 10: it "reports the number of children looked at"
 abbrev pub Left : (buffer : List ℕ) → (used : ℕ) → Request → Outcome → Type 0
 Left buffer used q o =
     let new : List ℕ = edited q (take used buffer) in
-    (o .place ≡ 0) × (o .used ≡ length new) × (o .change ≡ pos (length new) -ℤ pos used) × (o .buffer ≡ written buffer used new)
+    (o .place ≡ 0) × (o .used ≡ length new) × (o .change ≡ pos (length new) -ℤ pos used) × (o .buffer ≡ written buffer used new) × (o .children ≡ lookedAt q (take used buffer))
 
 -- "each edit in good form, at an allowed place and within the limits"
 abbrev pub InForm : (buffer : List ℕ) → (used : ℕ) → Request → Type 0
@@ -254,10 +254,11 @@ module _ (calls : Calls) where
   abbrev pub EditLeaves : Type 0
   EditLeaves = (table buffer : List ℕ) (used : ℕ) (q : Request) (o : Outcome) → Performs table buffer used q o → o .number ≡ 0 → Left buffer used q o
 
-  -- .. and on the tree: the tree that the document was, and the one that it is now, are as the edit rules say
+  -- .. and on the tree: the tree that the document was, and the one that it is now, are as the edit rules say; so are the children looked at
   abbrev pub EditIsTreeEdit : Type 0
   EditIsTreeEdit = (table buffer : List ℕ) (used : ℕ) (q : Request) (o : Outcome) → Performs table buffer used q o → o .number ≡ 0
-      → (old : Forest) × (new : Forest) × (toks (take used buffer) ≡ flat old []) × TreeEdit q old new × (toks (take (o .used) (o .buffer)) ≡ flat new [])
+      → (old : Forest) × (new : Forest) × (toks (take used buffer) ≡ flat old []) × (t : TreeEdit q old new)
+      × (toks (take (o .used) (o .buffer)) ≡ flat new []) × (o .children ≡ looked t)
 
   -- ---- demand 3
 

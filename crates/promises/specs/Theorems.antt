@@ -33,6 +33,8 @@ use Rattle.promises.specs.ByFile as by-file
 use Rattle.promises.specs.OnTree as on-tree
 use Rattle.promises.specs.Pointing as pointing
 use Rattle.promises.specs.Run.{run-right}
+use Rattle.promises.specs.Cost as cost
+use Rattle.promises.specs.Costing as costing
 use Rattle.promises.specs.Inclusion as inclusion
 use Rattle.promises.specs.Compared as compared
 
@@ -219,6 +221,11 @@ module _ (calls : Calls) (is : Faithful calls) where
   demand-3 s table t buffer used v l r =
       let u = by-paper s table t in
       run-right s (valid-iff s table u) table u buffer used v l (runs-by-paper table buffer used l r)
+
+  -- ---- item 10
+
+  pub edit-cost-bounded : cost.EditCostBounded calls
+  edit-cost-bounded table buffer used q o p = costing.bounded table buffer used q o (is .performs table buffer used q o p)
 
   -- ---- item 12
 

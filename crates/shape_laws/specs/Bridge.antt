@@ -17,7 +17,7 @@ toks-take zero a = refl
 toks-take (suc n) [] = refl
 toks-take (suc n) (x ∷ a) = ap (λ r. tokOf x ∷ r) (toks-take n a)
 
-toks-drop : (n : ℕ) (a : List ℕ) → toks (drop n a) ≡ drop n (toks a)
+pub toks-drop : (n : ℕ) (a : List ℕ) → toks (drop n a) ≡ drop n (toks a)
 toks-drop zero a = refl
 toks-drop (suc n) [] = refl
 toks-drop (suc n) (x ∷ a) = toks-drop n a

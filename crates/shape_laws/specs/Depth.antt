@@ -1,12 +1,12 @@
 -- The depth of an edited document: that of the place, and the piece's own.
 use mathlib.Core.Path.{_≡_, refl, sym, ap, _∙_}
-use mathlib.Core.Bool.{Bool, true, cond}
+use mathlib.Core.Bool.{Bool, true, false, cond}
 use mathlib.Core.List.{List, [], _∷_, _++_}
 use mathlib.Core.Option.{Option, none, some}
 use mathlib.Core.Logic.{_↔_}
 use Prim.Native.Nat.{ℕ, zero, suc, _+_, _-_, _≤_, max}
 use native.Mathlib.Omega.{arith}
-use lib.ListN.{take, drop, take-append-drop}
+use lib.ListN.{length, take, drop, take-append-drop}
 use Rattle.paper.specs.declared.Tok.{Tok}
 use Rattle.paper.specs.declared.Tok.the-variants.{Start, End, Text, Attr, Value, Bad}
 use Rattle.shape_laws.specs.Ends.{deep-ge}
@@ -22,6 +22,14 @@ use Rattle.basic_laws.specs.Bools.{clash}
 abbrev pub count : (Tok → Bool) → List Tok → ℕ
 count P [] = 0
 count P (t ∷ d) = cond (P t) (suc (count P d)) (count P d)
+
+pub count-few : (P : Tok → Bool) (d : List Tok) → count P d ≤ length d
+count-few P [] = omega arith
+count-few P (t ∷ d) = go (P t) (count-few P d)
+  where
+    go : (b : Bool) → count P d ≤ length d → cond b (suc (count P d)) (count P d) ≤ suc (length d)
+    go true h = omega arith
+    go false h = omega arith
 
 -- how many elements d leaves open: its starts less its ends
 abbrev pub openIn : List Tok → ℕ

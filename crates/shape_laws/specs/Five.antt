@@ -61,7 +61,7 @@ module _ (d : List Tok) (e : isElement d ≡ true) where
   five-keep (attribute a p s put) = attr-keeps a p d e s put
 
   -- what goes and what comes are balanced, and the place is in the document
-  five-even : {at n : ℕ} {piece : List Tok} → Allowed d at n piece → (balanced (take n (drop at d)) ≡ true) × (balanced piece ≡ true) × (at ≤ length d)
+  pub five-even : {at n : ℕ} {piece : List Tok} → Allowed d at n piece → (balanced (take n (drop at d)) ≡ true) × (balanced piece ≡ true) × (at ≤ length d)
   five-even (insert at t x s c w) = (refl, whole-item w .0, omega (arith, ap length s, length-drop (suc at) d))
   five-even (remove at h) = (cut-item d at e h .even, refl, omega (arith, size-some (drop (suc at) d) h, length-drop (suc at) d))
   five-even (replace at h w) = (cut-item d at e h .even, whole-item w .0, omega (arith, size-some (drop (suc at) d) h, length-drop (suc at) d))

@@ -1,5 +1,6 @@
 -- Laws of token lists. Ends has turns of loops; Bridge goes from numbers to tokens; Phases to Five say what an edit leaves as it was; Tree
--- says that shape is a tree; EditJudged says what follows for judging an edit.
+-- says that shape is a tree; EditJudged says what follows for judging an edit; Looked to EditLooked count the
+-- children that it looks at.
 pub mod Ends
 pub mod Bridge
 pub mod Local
@@ -14,3 +15,6 @@ pub mod Five
 pub mod Tree
 pub mod TreeDepth
 pub mod EditJudged
+pub mod Looked
+pub mod Widths
+pub mod EditLooked

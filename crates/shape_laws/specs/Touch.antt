@@ -17,7 +17,7 @@ use Rattle.paper.specs.declared.Tok.the-variants.{Start, End, Text, Attr, Value
 use Rattle.basic_laws.specs.Bools.{clash}
 
 -- an open element around a balanced rest is no balanced part
-unbalanced : (k : ℕ) (a : List Tok) (n : ℕ) (b : List Tok) → balanced b ≡ true → level (run k (a ++ (Start n ∷ b))) ≡ true → ⊥
+pub unbalanced : (k : ℕ) (a : List Tok) (n : ℕ) (b : List Tok) → balanced b ≡ true → level (run k (a ++ (Start n ∷ b))) ≡ true → ⊥
 unbalanced k [] n b h e = true≢false (sym e ∙ ap level (at-depth (suc k) b h))
 unbalanced k (Start v ∷ a) n b h e = unbalanced (suc k) a n b h e
 unbalanced zero (End ∷ a) n b h e = true≢false (sym e)

@@ -1,7 +1,7 @@
 -- What a document of good shape is: the tokens of one element, a tree.
 use mathlib.Core.Path.{_≡_, refl, sym, ap, ap₂, _∙_}
 use mathlib.Core.Bool.{Bool, true, false, cond, _&&_, and-eq-true-iff}
-use mathlib.Core.List.{List, [], _∷_}
+use mathlib.Core.List.{List, [], _∷_, _++_}
 use mathlib.Core.Logic.{_↔_}
 use Prim.Native.Nat.{ℕ, zero, suc, pred}
 use native.Mathlib.Omega.{arith}
@@ -16,6 +16,22 @@ use Rattle.shape_laws.specs.Keep.{element-made, element-parts, from-star
 use Rattle.paper.specs.Shape.{isBody, isElement, phaseOf, phases}
 use Rattle.paper.specs.Tokens.{close}
 use Rattle.paper.specs.Trees.{Given, Forest, nil, txt, elem, flatV, flatA, flat, above, rises, good, IsTree}
+
+-- ---- the tokens of a part, and what comes after it
+
+flatV-append : (vs : List ℕ) (a r : List Tok) → flatV vs (a ++ r) ≡ flatV vs a ++ r
+flatV-append [] a r = refl
+flatV-append (v ∷ vs) a r = ap (λ z. Value v ∷ z) (flatV-append vs a r)
+
+pub flatA-append : (gs : List Given) (a r : List Tok) → flatA gs (a ++ r) ≡ flatA gs a ++ r
+flatA-append [] a r = refl
+flatA-append (g ∷ gs) a r = rw (flatA-append gs a r, flatV-append (g .more) (flatA gs a) r)
+
+pub flat-append : (f : Forest) (a r : List Tok) → flat f (a ++ r) ≡ flat f a ++ r
+flat-append nil a r = refl
+flat-append (txt n f) a r = ap (λ z. Text n ∷ z) (flat-append f a r)
+flat-append (elem n gs k f) a r =
+    rw (flat-append f a r, flat-append k (End ∷ flat f a) r, flatA-append gs (flat k (End ∷ flat f a)) r)
 
 -- ---- the tokens of a tree have the shape
 

@@ -14,7 +14,7 @@ abbrev pub counted : Count → List ℕ → Counted
 counted r buffer = record { number = r .number; count = r .count; buffer = buffer }
 
 abbrev pub edited : Answer → List ℕ → Outcome
-edited r buffer = record { number = r .number; place = r .place; used = r .used; change = r .change; buffer = buffer }
+edited r buffer = record { number = r .number; place = r .place; used = r .used; change = r .change; children = r .children; buffer = buffer }
 
 abbrev pub compared : Compared → List ℕ → paper.Compared
 compared r buffer = record { number = r .number; takesAll = r .«takes_all»; len = r .length; buffer = buffer }

@@ -23,13 +23,15 @@ pub struct Verdict {
     pub place: u32,
 }
 
-// "The answer has number, place, used length, and the change in length, a signed count that is negative when tokens went."
+// "The answer has number, place, used length, and the change in length, a signed count that is negative when tokens went." Item 10: "A done
+// edit reports the number of children looked at".
 #[repr(C)]
 pub struct Answer {
     pub number: u32,
     pub place: u32,
     pub used: u64,
     pub change: i32,
+    pub children: u32,
 }
 
 // Item 12: yes (1) or no (0), and the length of the sequence that is lost.
@@ -109,6 +111,7 @@ pub extern "C" fn shrike_edit(
         place: made.place,
         used: made.used as u64,
         change: made.change,
+        children: made.children,
     }
 }
 

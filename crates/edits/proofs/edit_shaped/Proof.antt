@@ -3,7 +3,7 @@ use mathlib.Core.Path.{_≡_, _∙_}
 use mir.Syntax.{w32}
 use mir.Val.{toZ, ofZ}
 use native.Mathlib.Omega.{arith}
-use Rattle.edits.specs.Outcomes.{edit-form, edit-fault, edit-done, ready-few, ready-room, ready-long, ready-within, ready-at, ready-front}
+use Rattle.edits.specs.Outcomes.{edit-form, edit-fault, edit-done, ready-few, ready-room, ready-long, ready-within, ready-at, ready-front, ready-comes}
 use Rattle.form.specs.Form.{shaped-few, shaped-long}
 use borrow.Author.Needs.{needs}
 use Rattle.edits.proofs.edit_shaped.Statement.{statement}
@@ -28,7 +28,7 @@ slice-aggregate-judged : tie.Need-slice-aggregate-judged
 slice-aggregate-judged c = search needs
 
 judged-requires : tie.Need-judged-requires
-judged-requires c κs = search (needs, ready-few, ready-long, ready-within)
+judged-requires c κs = search (needs, ready-few, ready-long, ready-within, ready-comes)
 
 refused-requires-2 : tie.Need-refused-requires-2
 refused-requires-2 c κs = search needs

@@ -4,9 +4,6 @@ use borrow.Author.Needs.{needs}
 use Rattle.edits.proofs.touched_fault.Statement.{statement}
 use Rattle.edits.proofs.touched_fault.Tie as tie
 
-parent-of-requires : tie.Need-parent-of-requires
-parent-of-requires c κs = search needs
-
 add-first-fault : tie.Need-add-first-fault
 add-first-fault c = search needs
 
@@ -35,7 +32,6 @@ pub touched-fault-spec : {M : Type 1} → statement M
 touched-fault-spec =
     tie.close
     (tie.spec
-    parent-of-requires
     add-first-fault
     first-fault-requires
     returns
