@@ -1,31 +1,14 @@
--- A file as the system answered, and what it counts as. Assumes nothing.
+-- What a file as the system answered counts as. Assumes nothing.
 use mathlib.Core.Path.{_≡_, refl}
 use mathlib.Core.Bool.{Bool, true, false, _&&_}
 use mathlib.Core.Option.{Option, some}
 use mathlib.Core.List.{List}
 use Prim.Native.Nat.{ℕ}
-use lib.ListN.{take}
-use lib.IntN.{pos}
-use lib.Signed.{leZ}
 use Rattle.paper.specs.Program.{opened, linesOf, printed}
 use Rattle.lines.specs.Put.{Put, put-as}
 use Rattle.program.specs.Stages.{given}
-use Rattle.io.specs.Counts.{Counts}
-use Rattle.run_edits.specs.declared.Name.{Name}
-use Rattle.run_edits.specs.declared.File.{File}
-
--- the file of that name, its bytes at the front of its room
-pub record Holds (name : Name) (f : File) : Type 0 where
-  pub named : f .name ≡ name
-  pub counts : Counts (f .len) (f .bytes)
-
--- it was opened, and no read of it failed
-abbrev pub readable : File → Bool
-readable f = leZ (pos 0) (f .opened) && leZ (pos 0) (f .last)
-
--- the bytes that were read
-abbrev pub front : File → List ℕ
-front f = take (f .len) (f .bytes)
+use Rattle.input_files.specs.declared.File.{File}
+use Rattle.input_files.specs.Files.{readable, front}
 
 -- "a file .. not to be opened": one that cannot be read is as one that is not there
 abbrev pub content : File → Option (List ℕ)

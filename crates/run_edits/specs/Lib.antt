@@ -1,3 +1,3 @@
 -- The edit program: what the contracts of `run_edits` cite, and a law of it.
--- A file as the system answered
+-- What a file as the system answered counts as
 pub mod Files

@@ -1,10 +1,10 @@
--- `run_edits::read_all` meets its contract: what was read lies in the buffer, whose length is kept. The measure is the room that is left. Assumes nothing.
+-- `input_files::read_all` meets its contract: what was read lies in the buffer, whose length is kept. The measure is the room that is left. Assumes nothing.
 use mathlib.Core.Path.{_≡_}
 use borrow.Author.Needs.{needs}
 use Prim.Native.Nat.{_≤_, _-_}
 use lib.ListN.{length}
-use Rattle.run_edits.proofs.read_all.Statement.{statement}
-use Rattle.run_edits.proofs.read_all.Tie as tie
+use Rattle.input_files.proofs.read_all.Statement.{statement}
+use Rattle.input_files.proofs.read_all.Tie as tie
 
 abbrev Inv-loop : tie.InvT-loop
 Inv-loop file buffer₀ len₀ buffer len = (len ≤ length buffer) × (length buffer ≡ length buffer₀)

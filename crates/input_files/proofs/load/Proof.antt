@@ -1,9 +1,9 @@
--- `run_edits::load` meets its contract: the file has the name asked for, and its bytes are counted. Assumes nothing.
+-- `input_files::load` meets its contract: the file has the name asked for, and its bytes are counted. Assumes nothing.
 use mathlib.Core.Path.{sym}
 use lib.Seq.{length-take-le}
 use borrow.Author.Needs.{needs}
-use Rattle.run_edits.proofs.load.Statement.{statement}
-use Rattle.run_edits.proofs.load.Tie as tie
+use Rattle.input_files.proofs.load.Statement.{statement}
+use Rattle.input_files.proofs.load.Tie as tie
 
 room-requires : tie.Need-room-requires
 room-requires c κs = search needs

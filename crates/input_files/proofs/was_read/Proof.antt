@@ -1,11 +1,11 @@
--- `run_edits::was_read` meets its contract: both answers are 0 or more. Assumes nothing.
+-- `input_files::was_read` meets its contract: both answers are 0 or more. Assumes nothing.
 use mathlib.Core.Path.{_≡_}
 use mir.Val.{toZ, ofZ}
 use mir.Syntax.{w32, w64}
 use borrow.Author.Needs.{needs}
-use Rattle.run_edits.proofs.was_read.Statement.{statement}
+use Rattle.input_files.proofs.was_read.Statement.{statement}
 use borrow.Author.Needs.{needs}
-use Rattle.run_edits.proofs.was_read.Tie as tie
+use Rattle.input_files.proofs.was_read.Tie as tie
 
 returns : tie.Need-returns
 returns c =

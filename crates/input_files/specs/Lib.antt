@@ -1,0 +1,3 @@
+-- What the contracts of `input_files` cite.
+-- A file as the system answered
+pub mod Files
