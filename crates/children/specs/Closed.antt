@@ -16,7 +16,8 @@ use Rattle.paper.specs.Tokens.{toks, kids, close}
 use Rattle.paper.specs.Rules.{State}
 use Rattle.shape_laws.specs.Ends.{rest-none}
 use Rattle.shape_laws.specs.Bridge.{length-toks}
-use Rattle.places.specs.Closing.{closing, closing-length, closed-at, close-le}
+use Rattle.places.specs.Items.{close-le}
+use Rattle.closing.specs.Closing.{closing, closing-length, closed-at}
 use Rattle.children.specs.Stop.{modelStop}
 
 -- `closes` has, for each place of the document, the place of the end that closes the element that is open there
@@ -24,7 +25,7 @@ pub record Closed (doc : List ℕ) (used : ℕ) (closes : List ℕ) : Type 0 whe
   pub long : used ≤ length closes
   pub ends : (p : ℕ) → p < used → getD closes p 0 ≡ p + close zero (drop p (toks (take used doc)))
 
--- as `places::closes` leaves it
+-- as `closing::closes` leaves it
 pub closed : (doc : List ℕ) (used : ℕ) (left : List ℕ) {out : List ℕ} → used ≤ length doc → out ≡ closing 0 (toks (take used doc)) ++ left
     → Closed doc used out
 closed doc used left l e =

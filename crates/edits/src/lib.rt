@@ -3,6 +3,7 @@
 // `edit` asks nothing of its arguments. The edited tokens are made in a buffer of its own and judged there, at what the edit touches; only
 // an edit that is done is written back. A refusal leaves the document as it was.
 // Assumes nothing.
+use closing::closes;
 use copying::copy_tokens;
 use cost::looked_at;
 use form::form_of;
@@ -10,7 +11,6 @@ use judge::element_fault;
 use judge::first_fault;
 use judge::judged_with;
 use keys::Fault;
-use places::closes;
 use places::parent_of;
 ghost use mathlib.Core.Path.{_≡_};
 ghost use mathlib.Core.Bool.{true};

@@ -3,15 +3,15 @@
 // Only `form_of` is called from outside, with a document that has shape. The document is read; the edited tokens are written to a buffer
 // beside it.
 // Assumes nothing.
-use places::depth;
+use depths::depth;
+use depths::open_at;
 use places::item_size;
-use places::open_at;
-use places::splice_into;
 use places::token_at;
 use shape::element_shape;
 use slots::held_at;
 use slots::slot_at;
 use slots::values_at;
+use splicing::splice_into;
 use tokens::is_attribute;
 use tokens::is_end;
 use tokens::is_start;

@@ -174,7 +174,7 @@ pub fn check(table: &[u64], doc: &[u32], used: usize) -> Fault
         };
     }
     let mut closes = [0u32; paper::MOST_TOKENS];
-    places::closes(doc, used, &mut closes);
+    closing::closes(doc, used, &mut closes);
     let elements = first_fault(table, doc, used, &closes, 0, used);
     judged_with(table, doc, used, elements)
 }

@@ -2,7 +2,7 @@
 use mathlib.Core.Path.{_≡_, refl, sym, ap, _∙_}
 use mathlib.Core.Bool.{Bool, true, false}
 use mathlib.Core.List.{List, [], _∷_}
-use Prim.Native.Nat.{ℕ, zero, suc, _+_, _-_, _≤_, _<_}
+use Prim.Native.Nat.{ℕ, zero, suc, _+_, _-_, _≤_, _<_, suc-le-suc}
 use native.Mathlib.Omega.{arith}
 use lib.ListN.{length, getD, take, drop, length-drop, List·getD-eq-default}
 use lib.Seq.{drop-drop, length-take-le, getD-take}
@@ -12,7 +12,6 @@ use Rattle.paper.specs.Tokens.{tokOf, toks, starts, close, endOf, itemSize}
 use Rattle.basic_laws.specs.Bools.{clash}
 use Rattle.shape_laws.specs.Bridge.{length-toks}
 use Rattle.tokens.specs.Sorts.{textTok}
-use Rattle.places.specs.Closing.{close-le}
 
 -- ---- the token that begins d; Bad, where none does
 
@@ -45,6 +44,16 @@ module _ (buf : List ℕ) (used place : ℕ) (l : used ≤ length buf) {t : ℕ}
   start-within = omega (arith, token-within starts refl (take used buf) place (ap (λ x. starts (tokOf x)) (sym et) ∙ sym ey ∙ e), length-take-le used buf l)
 
 -- ---- an end stands behind its start, and not past the length
+
+pub close-le : (k : ℕ) (d : List Tok) → close k d ≤ length d
+close-le k [] = omega arith
+close-le k (Start n ∷ d) = suc-le-suc (close-le (suc k) d)
+close-le zero (End ∷ d) = omega arith
+close-le (suc k) (End ∷ d) = suc-le-suc (close-le k d)
+close-le k (Text n ∷ d) = suc-le-suc (close-le k d)
+close-le k (Attr n ∷ d) = suc-le-suc (close-le k d)
+close-le k (Value n ∷ d) = suc-le-suc (close-le k d)
+close-le k (Bad ∷ d) = suc-le-suc (close-le k d)
 
 module _ (buf : List ℕ) (used place : ℕ) {e : ℕ} (ee : e ≡ endOf (toks (take used buf)) place) where
   pub end-behind : place ≤ e

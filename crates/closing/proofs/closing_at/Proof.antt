@@ -1,7 +1,7 @@
-use Rattle.places.specs.Closing.{closing-next, closing-past, closing-end, closing-other}
+use Rattle.closing.specs.Closing.{closing-next, closing-past, closing-end, closing-other}
 use borrow.Author.Needs.{needs}
-use Rattle.places.proofs.closing_at.Statement.{statement}
-use Rattle.places.proofs.closing_at.Tie as tie
+use Rattle.closing.proofs.closing_at.Statement.{statement}
+use Rattle.closing.proofs.closing_at.Tie as tie
 
 is-start-requires : tie.Need-is-start-requires
 is-start-requires c κs = search needs

@@ -1,9 +1,9 @@
-use Rattle.places.specs.Depths.{Opened, opened-begin, opened-turn, opened-none, opened-some, one-le}
+use Rattle.depths.specs.Depths.{Opened, opened-begin, opened-turn, opened-none, opened-some, one-le}
 use borrow.Author.Needs.{needs}
 use Prim.Native.Nat.{_-_}
 use native.Mathlib.Omega.{arith}
-use Rattle.places.proofs.open_at.Statement.{statement}
-use Rattle.places.proofs.open_at.Tie as tie
+use Rattle.depths.proofs.open_at.Statement.{statement}
+use Rattle.depths.proofs.open_at.Tie as tie
 
 abbrev Inv-loop : tie.InvT-loop
 Inv-loop doc at starts₀ ends₀ i₀ starts ends i = Opened doc at i starts ends

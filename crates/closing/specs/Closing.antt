@@ -25,16 +25,6 @@ closingAt out used p e t = cond (starts t) (cond (ltb (e + 1) used) (getD out (e
 
 -- ---- the laws of close
 
-pub close-le : (k : ℕ) (d : List Tok) → close k d ≤ length d
-close-le k [] = omega arith
-close-le k (Start n ∷ d) = suc-le-suc (close-le (suc k) d)
-close-le zero (End ∷ d) = omega arith
-close-le (suc k) (End ∷ d) = suc-le-suc (close-le k d)
-close-le k (Text n ∷ d) = suc-le-suc (close-le k d)
-close-le k (Attr n ∷ d) = suc-le-suc (close-le k d)
-close-le k (Value n ∷ d) = suc-le-suc (close-le k d)
-close-le k (Bad ∷ d) = suc-le-suc (close-le k d)
-
 -- one level further out: behind the end that closes the inner element
 pub close-outer : (k : ℕ) (d : List Tok) → close k d < length d → close (suc k) d ≡ suc (close k d + close zero (drop (suc (close k d)) d))
 close-outer k [] h = absurd (not-suc-le-zero h)

@@ -14,7 +14,8 @@ use Rattle.paper.specs.declared.Tok.the-variants.{Start, End, Text, Attr, Value
 use Rattle.paper.specs.Tokens.{tokOf, toks, close}
 use Rattle.shape_laws.specs.Ends.{rest-next, rest-none}
 use Rattle.shape_laws.specs.Bridge.{length-toks}
-use Rattle.places.specs.Closing.{closing, closingAt, close-le, close-outer, close-none, closing-length, closing-at}
+use Rattle.places.specs.Items.{close-le}
+use Rattle.closing.specs.Closing.{closing, closingAt, close-outer, close-none, closing-length, closing-at}
 
 -- from place p on all is written, and e is what stands at p
 pub record Closing (d : List Tok) (used : ℕ) (out₀ out : List ℕ) (p e : ℕ) : Type 0 where

@@ -1,9 +1,9 @@
-use Rattle.places.specs.Depths.{Deepening, deepening-begin, deepening-turn, deepening-end}
+use Rattle.depths.specs.Depths.{Deepening, deepening-begin, deepening-turn, deepening-end}
 use borrow.Author.Needs.{needs}
 use lib.ListN.{length}
 use Prim.Native.Nat.{_-_}
-use Rattle.places.proofs.depth.Statement.{statement}
-use Rattle.places.proofs.depth.Tie as tie
+use Rattle.depths.proofs.depth.Statement.{statement}
+use Rattle.depths.proofs.depth.Tie as tie
 
 abbrev Inv-loop : tie.InvT-loop
 Inv-loop piece n k₀ most₀ i₀ k most i = Deepening piece i k most

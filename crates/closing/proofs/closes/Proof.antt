@@ -1,11 +1,11 @@
 use Rattle.paper.specs.Tokens.{toks}
 use borrow.Author.Needs.{needs}
-use Rattle.places.specs.ClosingTurns.{Closing, closing-none, closing-turn, closing-all, closing-low}
+use Rattle.closing.specs.ClosingTurns.{Closing, closing-none, closing-turn, closing-all, closing-low}
 use Prim.Native.Nat.{_≤_}
 use lib.ListN.{take}
 use native.Mathlib.Omega.{arith}
-use Rattle.places.proofs.closes.Statement.{statement}
-use Rattle.places.proofs.closes.Tie as tie
+use Rattle.closing.proofs.closes.Statement.{statement}
+use Rattle.closing.proofs.closes.Tie as tie
 
 abbrev Inv-loop : tie.InvT-loop
 Inv-loop doc used out₀ p₀ e₀ out p e = Closing (toks (take used doc)) used out₀ out p e

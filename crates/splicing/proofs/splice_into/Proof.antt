@@ -1,7 +1,7 @@
-use Rattle.places.specs.Splicing.{spliced}
+use Rattle.splicing.specs.Splicing.{spliced}
 use borrow.Author.Needs.{needs}
-use Rattle.places.proofs.splice_into.Statement.{statement}
-use Rattle.places.proofs.splice_into.Tie as tie
+use Rattle.splicing.proofs.splice_into.Statement.{statement}
+use Rattle.splicing.proofs.splice_into.Tie as tie
 
 copy-tokens-requires : tie.Need-copy-tokens-requires
 copy-tokens-requires c κs = search needs

@@ -1,0 +1,3 @@
+-- Depth.
+-- The elements open at a place, and the depth of a piece
+pub mod Depths

@@ -1,0 +1,3 @@
+-- The splice.
+-- Three copies make it
+pub mod Splicing
