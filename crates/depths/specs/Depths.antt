@@ -1,14 +1,18 @@
--- The turns of the loops that count the open elements at a place and find the deepest level of a piece. Assumes nothing.
-use mathlib.Core.Path.{_≡_, refl, ap, _∙_}
+-- The turns of the loops that count the open elements at a place and find the deepest level of a piece; a piece at its place. Assumes
+-- nothing.
+use mathlib.Core.Path.{_≡_, refl, sym, ap, _∙_}
 use mathlib.Core.Bool.{Bool, true, false, cond}
 use mathlib.Core.List.{List}
 use Prim.Native.Nat.{ℕ, suc, _+_, _-_, _≤_, _<_, max}
 use native.Mathlib.Numerals.{add-one}
 use native.Mathlib.Omega.{arith}
+use borrow.Author.Tests.{le-leb, lt-leb, leb-true, leb-false}
+use lib.Dec.{leb}
 use lib.ListN.{length, getD, take, drop}
 use lib.Seq.{take-length}
 use mir.Val.{boolByte}
 use Rattle.paper.specs.declared.Tok.{Tok}
+use Rattle.paper.specs.Basics.{mostDeep}
 use Rattle.paper.specs.Tokens.{tokOf, toks, starts, levelOf, deep}
 use Rattle.shape_laws.specs.Depth.{count, openIn}
 use Rattle.shape_laws.specs.Ends.{rest-next, rest-none, level-le, deep-turn, deep-out}
@@ -92,3 +96,16 @@ module _ (buf : List ℕ) (i k m : ℕ) (c : Deepening buf i k m) where
       let out = deep-out buf (length buf) i k m (omega arith) in
       let all : deep 0 (toks (take (length buf) buf)) ≡ deep 0 (toks buf) = ap (λ l. deep 0 (toks l)) (take-length buf) in
       omega arith
+
+-- ---- a piece of depth b where o elements are open
+
+module _ {o b : ℕ} (h : o ≤ mostDeep) {n : ℕ} (en : n ≡ b) where
+  pub below-none : n ≡ 0 → true ≡ leb (o + b) mostDeep
+  below-none z = sym (le-leb (o + b) mostDeep (omega arith))
+
+  pub below-some : {m : ℕ} → m ≡ o → leb n (mostDeep - m) ≡ leb (o + b) mostDeep
+  below-some {m} em = go (leb n (mostDeep - m)) refl
+    where
+      go : (x : Bool) → leb n (mostDeep - m) ≡ x → leb n (mostDeep - m) ≡ leb (o + b) mostDeep
+      go true e = e ∙ sym (le-leb (o + b) mostDeep (omega (arith, leb-true n (mostDeep - m) e)))
+      go false e = e ∙ sym (lt-leb (o + b) mostDeep (omega (arith, leb-false n (mostDeep - m) e)))

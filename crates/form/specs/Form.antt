@@ -21,9 +21,9 @@ use Rattle.shape_laws.specs.Attrs.{attr-rest}
 use Rattle.shape_laws.specs.Depth.{openIn}
 use Rattle.shape_laws.specs.Five.{Allowed, insert, remove, replace, replace-root, attribute, five-deep, place-deep}
 use Rattle.shape_laws.specs.EditJudged.{allowed-by, coming-toks, edited-toks}
-use Rattle.form.specs.declared.Plan.{Plan}
+use Rattle.plans.specs.declared.Plan.{Plan}
 use Rattle.form.specs.declared.Form.{Form}
-use Rattle.form.specs.Plan.{planned, planOf}
+use Rattle.plans.specs.Plan.{planned, planOf}
 use Rattle.form.specs.Size.{Made, Level, come-le}
 
 -- the form and the edited tokens, by the request

@@ -4,7 +4,7 @@ use mathlib.Core.Bool.{Bool, true, false, cond, not, _&&_, and-true, and-false}
 use mathlib.Core.List.{List, [], _++_}
 use Prim.Native.Nat.{ℕ, _+_, _-_, _≤_, _<_}
 use native.Mathlib.Omega.{arith}
-use borrow.Author.Tests.{le-leb, lt-leb, leb-true, leb-false, ne-eqb, not-true, not-false}
+use borrow.Author.Tests.{le-leb, lt-leb, ne-eqb, not-true, not-false}
 use lib.Dec.{leb, eqb}
 use lib.ListN.{length, take, drop, length-append, length-drop}
 use lib.Seq.{take-length, take-at, length-take-le}
@@ -29,17 +29,6 @@ pub record Made (room at n : ℕ) (new : List ℕ) (r : Form) (after : List ℕ)
 pub record Level (doc : List ℕ) (used at cut : ℕ) (piece : List ℕ) : Type 0 where
   pub low : openIn (toks (take at doc)) ≤ mostDeep
   pub told : shallow (toks (splice at cut piece (take used doc))) ≡ leb (openIn (toks (take at doc)) + deep 0 (toks piece)) mostDeep
-
-module _ {o b : ℕ} (h : o ≤ mostDeep) {n : ℕ} (en : n ≡ b) where
-  pub below-none : n ≡ 0 → true ≡ leb (o + b) mostDeep
-  below-none z = sym (le-leb (o + b) mostDeep (omega arith))
-
-  pub below-some : {m : ℕ} → m ≡ o → leb n (mostDeep - m) ≡ leb (o + b) mostDeep
-  below-some {m} em = go (leb n (mostDeep - m)) refl
-    where
-      go : (x : Bool) → leb n (mostDeep - m) ≡ x → leb n (mostDeep - m) ≡ leb (o + b) mostDeep
-      go true e = e ∙ sym (le-leb (o + b) mostDeep (omega (arith, leb-true n (mostDeep - m) e)))
-      go false e = e ∙ sym (lt-leb (o + b) mostDeep (omega (arith, leb-false n (mostDeep - m) e)))
 
 -- ---- what comes
 

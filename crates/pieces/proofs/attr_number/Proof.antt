@@ -1,8 +1,8 @@
--- `form::attr_number` meets its contract. Assumes nothing.
-use Rattle.form.specs.Pieces.{number-some, number-none}
+-- `pieces::attr_number` meets its contract. Assumes nothing.
+use Rattle.pieces.specs.Pieces.{number-some, number-none}
 use borrow.Author.Needs.{needs}
-use Rattle.form.proofs.attr_number.Statement.{statement}
-use Rattle.form.proofs.attr_number.Tie as tie
+use Rattle.pieces.proofs.attr_number.Statement.{statement}
+use Rattle.pieces.proofs.attr_number.Tie as tie
 
 token-at-requires : tie.Need-token-at-requires
 token-at-requires c κs = search needs

@@ -1,8 +1,8 @@
--- `form::is_one_text` meets its contract. Assumes nothing.
-use Rattle.form.specs.Pieces.{text-not, text-one}
+-- `pieces::is_one_text` meets its contract. Assumes nothing.
+use Rattle.pieces.specs.Pieces.{text-not, text-one}
 use borrow.Author.Needs.{needs}
-use Rattle.form.proofs.is_one_text.Statement.{statement}
-use Rattle.form.proofs.is_one_text.Tie as tie
+use Rattle.pieces.proofs.is_one_text.Statement.{statement}
+use Rattle.pieces.proofs.is_one_text.Tie as tie
 
 returns : tie.Need-returns
 returns c = search text-not

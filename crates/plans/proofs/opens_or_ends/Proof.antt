@@ -1,8 +1,8 @@
--- `form::opens_or_ends` meets its contract. Assumes nothing.
-use Rattle.form.specs.Plan.{opens-ends-told}
+-- `plans::opens_or_ends` meets its contract. Assumes nothing.
+use Rattle.plans.specs.Plan.{opens-ends-told}
 use borrow.Author.Needs.{needs}
-use Rattle.form.proofs.opens_or_ends.Statement.{statement}
-use Rattle.form.proofs.opens_or_ends.Tie as tie
+use Rattle.plans.proofs.opens_or_ends.Statement.{statement}
+use Rattle.plans.proofs.opens_or_ends.Tie as tie
 
 opens-requires : tie.Need-opens-requires
 opens-requires c κs = search needs

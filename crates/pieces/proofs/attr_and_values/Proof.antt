@@ -1,8 +1,8 @@
--- `form::attr_and_values` meets its contract. Assumes nothing.
-use Rattle.form.specs.Pieces.{set-short, set-other, set-values}
+-- `pieces::attr_and_values` meets its contract. Assumes nothing.
+use Rattle.pieces.specs.Pieces.{set-short, set-other, set-values}
 use borrow.Author.Needs.{needs}
-use Rattle.form.proofs.attr_and_values.Statement.{statement}
-use Rattle.form.proofs.attr_and_values.Tie as tie
+use Rattle.pieces.proofs.attr_and_values.Statement.{statement}
+use Rattle.pieces.proofs.attr_and_values.Tie as tie
 
 returns : tie.Need-returns
 returns c = search set-short

@@ -1,8 +1,8 @@
--- `form::opens` meets its contract. Assumes nothing.
-use Rattle.form.specs.Plan.{opens-told}
+-- `plans::opens` meets its contract. Assumes nothing.
+use Rattle.plans.specs.Plan.{opens-told}
 use borrow.Author.Needs.{needs}
-use Rattle.form.proofs.opens.Statement.{statement}
-use Rattle.form.proofs.opens.Tie as tie
+use Rattle.plans.proofs.opens.Statement.{statement}
+use Rattle.plans.proofs.opens.Tie as tie
 
 is-start-requires : tie.Need-is-start-requires
 is-start-requires c κs = search needs

@@ -14,11 +14,11 @@ use Rattle.paper.specs.declared.Tok.the-variants.{Start, End, Text, Attr, Value
 use Rattle.paper.specs.Tokens.{tokOf, toks, starts, isStart, itemSize, slot, held}
 use Rattle.paper.specs.Edits.{isText, opens, opensOrEnds, atHead, attrNumber, attrAt, attrCut, goodPlace, spliceAt, spliceCut}
 use Rattle.shape_laws.specs.Bridge.{length-toks}
-use Rattle.form.specs.declared.Plan.{Plan}
+use Rattle.plans.specs.declared.Plan.{Plan}
 use Rattle.tokens.specs.Sorts.{ends, textTok}
 use Rattle.places.specs.Items.{headTok, head-is, start-within}
 use Rattle.slots.specs.Counts.{slot-le}
-use Rattle.form.specs.Pieces.{by-1, by-2, by-3, by-more}
+use Rattle.pieces.specs.Pieces.{by-1, by-2, by-3, by-more}
 
 -- a plan, if its place is good
 abbrev pub planned : Bool → ℕ → ℕ → Plan

@@ -1,8 +1,8 @@
--- `form::attr_alone` meets its contract. Assumes nothing.
-use Rattle.form.specs.Pieces.{alone-not, alone-one}
+-- `pieces::attr_alone` meets its contract. Assumes nothing.
+use Rattle.pieces.specs.Pieces.{alone-not, alone-one}
 use borrow.Author.Needs.{needs}
-use Rattle.form.proofs.attr_alone.Statement.{statement}
-use Rattle.form.proofs.attr_alone.Tie as tie
+use Rattle.pieces.proofs.attr_alone.Statement.{statement}
+use Rattle.pieces.proofs.attr_alone.Tie as tie
 
 returns : tie.Need-returns
 returns c = search alone-not

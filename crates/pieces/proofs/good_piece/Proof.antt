@@ -1,8 +1,8 @@
--- `form::good_piece` meets its contract. Assumes nothing.
-use Rattle.form.specs.Pieces.{piece-long, piece-1, piece-2, piece-3, piece-4, piece-5}
+-- `pieces::good_piece` meets its contract. Assumes nothing.
+use Rattle.pieces.specs.Pieces.{piece-long, piece-1, piece-2, piece-3, piece-4, piece-5}
 use borrow.Author.Needs.{needs}
-use Rattle.form.proofs.good_piece.Statement.{statement}
-use Rattle.form.proofs.good_piece.Tie as tie
+use Rattle.pieces.proofs.good_piece.Statement.{statement}
+use Rattle.pieces.proofs.good_piece.Tie as tie
 
 returns : tie.Need-returns
 returns c = search piece-long

@@ -1,8 +1,8 @@
--- `form::shallow_at` meets its contract. Assumes nothing.
-use Rattle.form.specs.Size.{below-none, below-some}
+-- `depths::shallow_at` meets its contract. Assumes nothing.
+use Rattle.depths.specs.Depths.{below-none, below-some}
 use borrow.Author.Needs.{needs}
-use Rattle.form.proofs.shallow_at.Statement.{statement}
-use Rattle.form.proofs.shallow_at.Tie as tie
+use Rattle.depths.proofs.shallow_at.Statement.{statement}
+use Rattle.depths.proofs.shallow_at.Tie as tie
 
 depth-requires : tie.Need-depth-requires
 depth-requires c κs = search needs

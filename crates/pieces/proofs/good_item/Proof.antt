@@ -1,8 +1,8 @@
--- `form::good_item` meets its contract. Assumes nothing.
-use Rattle.form.specs.Pieces.{item-element}
+-- `pieces::good_item` meets its contract. Assumes nothing.
+use Rattle.pieces.specs.Pieces.{item-element}
 use borrow.Author.Needs.{needs}
-use Rattle.form.proofs.good_item.Statement.{statement}
-use Rattle.form.proofs.good_item.Tie as tie
+use Rattle.pieces.proofs.good_item.Statement.{statement}
+use Rattle.pieces.proofs.good_item.Tie as tie
 
 is-one-text-requires : tie.Need-is-one-text-requires
 is-one-text-requires c κs = search needs

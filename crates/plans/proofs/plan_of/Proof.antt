@@ -1,10 +1,10 @@
--- `form::plan_of` meets its contract. Assumes nothing.
-use Rattle.form.specs.Plan.{plan-1, plan-2, plan-3, plan-none, plan-attr, start-place, slot-place}
+-- `plans::plan_of` meets its contract. Assumes nothing.
+use Rattle.plans.specs.Plan.{plan-1, plan-2, plan-3, plan-none, plan-attr, start-place, slot-place}
 use native.Mathlib.Omega.{arith}
 use Prim.Native.Nat.{_≤_, _<_, _+_}
 use borrow.Author.Needs.{needs}
-use Rattle.form.proofs.plan_of.Statement.{statement}
-use Rattle.form.proofs.plan_of.Tie as tie
+use Rattle.plans.proofs.plan_of.Statement.{statement}
+use Rattle.plans.proofs.plan_of.Tie as tie
 
 token-at-requires : tie.Need-token-at-requires
 token-at-requires c κs = search needs

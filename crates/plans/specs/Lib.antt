@@ -1,0 +1,3 @@
+-- The place of an edit.
+-- The place, and the splice there
+pub mod Plan
