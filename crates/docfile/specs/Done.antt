@@ -13,7 +13,7 @@ use Rattle.paper.specs.Basics.{mostTokens}
 use Rattle.paper.specs.Files.{largest, fileOf, Result, refused, made, tokensIn, reading, writing, Counted, counted, read, write}
 use Rattle.numbers.specs.At.{front-small}
 use Rattle.numbers.specs.Laws.{bytes, bytes-rest, Holds, none, more, holds-one, holds-file, tokens-back, tokens-made, tokens-refused}
-use Rattle.docfile.specs.Writer.{small}
+use Rattle.docfile.specs.Outcome.{small}
 
 -- the tokens read or the bytes written: the first places of the buffer, as many as are counted
 abbrev pub content : Counted → List ℕ

@@ -1,12 +1,15 @@
--- The outcome of a call, and a list laid over a part of a buffer. Assumes nothing.
+-- The outcome of a call, tokens that have bytes, and a list laid over a part of a buffer. Assumes nothing.
 use mathlib.Core.Path.{_≡_, ap, _∙_}
+use mathlib.Core.Bool.{Bool}
 use mathlib.Core.List.{List, [], _++_, append-assoc}
 use Prim.Native.Nat.{ℕ, _+_, _≤_}
 use native.Mathlib.Nat.{add-assoc}
 use native.Mathlib.Omega.{arith}
+use lib.Dec.{leb}
 use lib.ListN.{length, take, drop, length-append, take-append-drop}
 use lib.Seq.{sets, sets-eq, take-at, drop-at, drop-drop, length-take-le}
-use Rattle.paper.specs.Files.{Counted}
+use Rattle.paper.specs.Basics.{all}
+use Rattle.paper.specs.Files.{largest, Counted}
 use Rattle.docfile.specs.declared.Count.{Count}
 
 -- the answer, with every place of the buffer
@@ -16,6 +19,10 @@ outcome r buffer = record { number = r .number; count = r .count; buffer = buffe
 -- number k and count n
 abbrev pub answer : ℕ → ℕ → Count
 answer k n = record { number = k; count = n }
+
+-- no token is too large
+abbrev pub small : List ℕ → Bool
+small = all (λ t. leb t largest)
 
 -- a buffer with l in its places from `at` on
 abbrev pub laid : ℕ → List ℕ → List ℕ → List ℕ

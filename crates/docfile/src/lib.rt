@@ -1,29 +1,23 @@
-// Document files: the tokens of a document as seven-bit numbers and nothing else.
+// Document files: the tokens of a document as seven-bit numbers and nothing else. Here is their reader; `doc_writer` has the writer.
 //
-// Each call knows its answer before it writes: a refused call leaves the lent buffer as it was. The reader decodes into an array of its
-// own and copies; the writer first goes over its tokens without writing. Nothing is asked of either slice. The document's tree is not
-// judged.
+// The reader knows its answer before it writes: a refused call leaves the lent buffer as it was. It decodes into an array of its own and
+// copies. Nothing is asked of either slice. The document's tree is not judged.
 // Assumes nothing.
 use copying::copy_tokens;
 use numbers::Num;
 use numbers::number_at;
-use numbers::put_number;
-use numbers::width;
 use paper::BROKEN;
 use paper::DONE;
 use paper::MOST_TOKENS;
-use paper::MOST_VALUE;
 use paper::ROOM;
-use paper::SHAPE;
 ghost use mathlib.Core.Path.{_≡_};
 ghost use Prim.Native.Nat.{_≤_, min};
 ghost use lib.ListN.{length};
 ghost use Rattle.paper.specs.Basics.{mostTokens};
-ghost use Rattle.paper.specs.Files.{fileOf, tokensIn};
+ghost use Rattle.paper.specs.Files.{tokensIn};
 ghost use Rattle.paper.specs.Files;
-ghost use Rattle.docfile.specs.Outcome.{outcome, answer, laid};
+ghost use Rattle.docfile.specs.Outcome.{outcome, answer};
 ghost use Rattle.docfile.specs.Reader.{Roomy, Decoded};
-ghost use Rattle.docfile.specs.Writer.{small, Ready};
 
 // The answer's number, 0 when done, and how many tokens were read or bytes written.
 pub struct Count {
@@ -32,7 +26,7 @@ pub struct Count {
 }
 
 // The answer of a call that is refused.
-fn refusal(number: u32) -> Count
+pub fn refusal(number: u32) -> Count
     ensures { λ r. ⌜ r ≡ answer number 0 ⌝ }
 {
     Count { number, count: 0 }
@@ -102,65 +96,4 @@ pub fn read(file: &[u8], tokens: &mut [u32]) -> Count
     }
     let mut many = [0u32; MOST_TOKENS];
     read_by(file, tokens, &mut many)
-}
-
-// Whether no token is too large.
-fn all_small(tokens: &[u32]) -> bool
-    ensures { λ r. ⌜ r ≡ small (now (tokens .entry)) ⌝ }
-{
-    let mut fine = true;
-    let mut i: usize = 0;
-    while i < tokens.len() {
-        fine = fine & (tokens[i] <= MOST_VALUE);
-        i += 1;
-    }
-    fine
-}
-
-// How many bytes the tokens take.
-fn count_bytes(tokens: &[u32]) -> usize
-    ensures { λ r. ⌜ r ≡ length (fileOf (now (tokens .entry))) ⌝ }
-{
-    let mut n: usize = 0;
-    let mut i: usize = 0;
-    while i < tokens.len() {
-        n += width(tokens[i]);
-        i += 1;
-    }
-    n
-}
-
-// The bytes of the tokens go into the buffer.
-fn put_bytes(tokens: &[u32], file: &mut [u8])
-    requires { ⌜ Ready (now tokens) (now file) ⌝ }
-    ensures { λ _. ⌜ now (file .exit) ≡ laid 0 (fileOf (now (tokens .entry))) (now (file .entry)) ⌝ }
-{
-    let mut at: usize = 0;
-    let mut i: usize = 0;
-    while i < tokens.len() {
-        at = put_number(file, at, tokens[i]);
-        i += 1;
-    }
-}
-
-// Writes every token of the slice into the first bytes of the buffer.
-pub fn write(tokens: &[u32], file: &mut [u8]) -> Count
-    ensures { λ r. ⌜ outcome r (now (file .exit)) ≡ Files.write (now (tokens .entry)) (now (file .entry)) ⌝ }
-{
-    if tokens.len() > MOST_TOKENS {
-        return refusal(ROOM);
-    }
-    if !all_small(tokens) {
-        return refusal(SHAPE);
-    }
-    let n = count_bytes(tokens);
-    if n > file.len() {
-        return refusal(ROOM);
-    }
-    put_bytes(tokens, file);
-    let count = n as u32;
-    Count {
-        number: DONE,
-        count,
-    }
 }

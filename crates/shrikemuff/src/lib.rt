@@ -66,7 +66,7 @@ pub extern "C" fn shrike_read(file: &[u8], tokens: &mut [u32]) -> Count
 pub extern "C" fn shrike_write(tokens: &[u32], file: &mut [u8]) -> Count
     ensures { λ r. ⌜ Writes (now (tokens .entry)) (now (file .entry)) (counted r (now (file .exit))) ⌝ }
 {
-    let put = docfile::write(tokens, file);
+    let put = doc_writer::write(tokens, file);
     Count {
         number: put.number,
         count: put.count,

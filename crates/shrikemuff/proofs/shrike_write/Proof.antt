@@ -1,4 +1,4 @@
--- `shrikemuff::shrike_write` meets its contract: it hands on what `docfile::write` answers. Assumes nothing.
+-- `shrikemuff::shrike_write` meets its contract: it hands on what `doc_writer::write` answers. Assumes nothing.
 use borrow.Author.Needs.{needs}
 use Rattle.shrikemuff.proofs.shrike_write.Statement.{statement}
 use Rattle.shrikemuff.proofs.shrike_write.Tie as tie

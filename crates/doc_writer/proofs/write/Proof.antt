@@ -1,9 +1,9 @@
--- `docfile::write` meets its contract: a law for each answer, in the paper's order. Assumes nothing.
+-- `doc_writer::write` meets its contract: a law for each answer, in the paper's order. Assumes nothing.
 use native.Mathlib.Omega.{arith}
 use borrow.Author.Needs.{needs}
-use Rattle.docfile.specs.Writer.{write-many, write-large, write-full, write-ready, file-long, write-done}
-use Rattle.docfile.proofs.write.Statement.{statement}
-use Rattle.docfile.proofs.write.Tie as tie
+use Rattle.doc_writer.specs.Writer.{write-many, write-large, write-full, write-ready, file-long, write-done}
+use Rattle.doc_writer.proofs.write.Statement.{statement}
+use Rattle.doc_writer.proofs.write.Tie as tie
 
 refusal-requires : tie.Need-refusal-requires
 refusal-requires c κs = search needs

@@ -1,10 +1,10 @@
--- `docfile::all_small` meets its contract. The loop's invariant is `Seeking`; the measure is how many tokens are left. Assumes nothing.
+-- `doc_writer::all_small` meets its contract. The loop's invariant is `Seeking`; the measure is how many tokens are left. Assumes nothing.
 use Prim.Native.Nat.{_-_}
 use borrow.Author.Needs.{needs}
 use lib.ListN.{length}
-use Rattle.docfile.specs.Writer.{Seeking, seek-none, seek-more, seek-end}
-use Rattle.docfile.proofs.all_small.Statement.{statement}
-use Rattle.docfile.proofs.all_small.Tie as tie
+use Rattle.doc_writer.specs.Writer.{Seeking, seek-none, seek-more, seek-end}
+use Rattle.doc_writer.proofs.all_small.Statement.{statement}
+use Rattle.doc_writer.proofs.all_small.Tie as tie
 
 abbrev Inv-loop : tie.InvT-loop
 Inv-loop tokens fine₀ i₀ fine i = Seeking tokens i fine

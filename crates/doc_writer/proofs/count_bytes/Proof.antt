@@ -1,12 +1,12 @@
--- `docfile::count_bytes` meets its contract. The loop's invariant is `Adding`; the measure is how many tokens are left. Assumes nothing.
+-- `doc_writer::count_bytes` meets its contract. The loop's invariant is `Adding`; the measure is how many tokens are left. Assumes nothing.
 use Prim.Native.Nat.{_-_, _≤_}
 use native.Mathlib.Omega.{arith}
 use borrow.Author.Needs.{needs}
 use lib.ListN.{length}
 use Rattle.numbers.specs.Store.{most-wide}
-use Rattle.docfile.specs.Writer.{Adding, add-none, add-more, add-end}
-use Rattle.docfile.proofs.count_bytes.Statement.{statement}
-use Rattle.docfile.proofs.count_bytes.Tie as tie
+use Rattle.doc_writer.specs.Writer.{Adding, add-none, add-more, add-end}
+use Rattle.doc_writer.proofs.count_bytes.Statement.{statement}
+use Rattle.doc_writer.proofs.count_bytes.Tie as tie
 
 abbrev Inv-loop : tie.InvT-loop
 Inv-loop tokens n₀ i₀ n i = Adding tokens i n

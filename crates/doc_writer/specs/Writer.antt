@@ -9,15 +9,11 @@ use borrow.Author.Tests.{lt-ltb, le-ltb, leb-true, le-leb, lt-leb, not-true, not
 use lib.Dec.{leb}
 use lib.ListN.{length, drop, getD, length-append, drop-of-length-le}
 use lib.Seq.{drop-cons, sets, length-sets}
-use Rattle.paper.specs.Basics.{mostTokens, all}
+use Rattle.paper.specs.Basics.{mostTokens}
 use Rattle.paper.specs.Files.{largest, bytesOf, fileOf, writing, write}
 use Rattle.numbers.specs.Store.{Storable, stored, most-wide}
 use Rattle.docfile.specs.declared.Count.{Count}
-use Rattle.docfile.specs.Outcome.{outcome, answer, laid, lay-none, lay-more}
-
--- no token is too large
-abbrev pub small : List ℕ → Bool
-small = all (λ t. leb t largest)
+use Rattle.docfile.specs.Outcome.{outcome, answer, laid, lay-none, lay-more, small}
 
 -- the tokens have bytes, and there is room for them
 pub record Ready (tokens file : List ℕ) : Type 0 where

@@ -1,10 +1,10 @@
--- `docfile::put_bytes` meets its contract. The loop's invariant is `Storing`; the measure is how many tokens are left. Assumes nothing.
+-- `doc_writer::put_bytes` meets its contract. The loop's invariant is `Storing`; the measure is how many tokens are left. Assumes nothing.
 use Prim.Native.Nat.{_-_}
 use borrow.Author.Needs.{needs}
 use lib.ListN.{length}
-use Rattle.docfile.specs.Writer.{Storing, store-none, store-fits, store-more, store-end}
-use Rattle.docfile.proofs.put_bytes.Statement.{statement}
-use Rattle.docfile.proofs.put_bytes.Tie as tie
+use Rattle.doc_writer.specs.Writer.{Storing, store-none, store-fits, store-more, store-end}
+use Rattle.doc_writer.proofs.put_bytes.Statement.{statement}
+use Rattle.doc_writer.proofs.put_bytes.Tie as tie
 
 abbrev Inv-loop : tie.InvT-loop
 Inv-loop tokens file₀ at₀ i₀ file at i = Storing tokens file₀ at i file

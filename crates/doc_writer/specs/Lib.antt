@@ -1,0 +1,3 @@
+-- The writer of document files.
+-- Its passes
+pub mod Writer
