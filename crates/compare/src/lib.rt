@@ -25,6 +25,7 @@ ghost use Rattle.paper.specs.Inclusion.{comparable};
 ghost use Rattle.compare.specs.Outcome.{outcomeOf, refusal};
 
 // The answer's number; 1 if the new content takes all that the old one takes, else 0; and the length of the sequence that is lost.
+#[repr(C)]
 pub struct Compared {
     pub number: u32,
     pub takes_all: u32,

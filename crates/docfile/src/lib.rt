@@ -19,7 +19,8 @@ ghost use Rattle.paper.specs.Files;
 ghost use Rattle.docfile.specs.Outcome.{outcome, answer};
 ghost use Rattle.docfile.specs.Reader.{Roomy, Decoded};
 
-// The answer's number, 0 when done, and how many tokens were read or bytes written.
+// "reader and writer [answer] a number and the count of tokens or bytes, 0 when refused"
+#[repr(C)]
 pub struct Count {
     pub number: u32,
     pub count: u32,
@@ -55,9 +56,10 @@ fn decode(file: &[u8], got: &mut [u32], room: usize) -> Count
             }
         }
     }
+    let count = held as u32;
     Count {
         number: DONE,
-        count: held as u32,
+        count,
     }
 }
 

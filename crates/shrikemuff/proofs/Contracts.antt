@@ -9,7 +9,9 @@ use Rattle.paper.specs.Inclusion.{Compared}
 use Rattle.paper.specs.Dtd.Imported.{Spot}
 use Rattle.paper.specs.Calls.{Reads, Writes, Translates, Checks, Performs, Compares, Imports, Names, Spots}
 use Rattle.contracts.specs.{Call, TakesAll, Allows, allowed}
-use Rattle.shrikemuff.specs.Outcomes.{counted, edited, compared, spotted}
+use Rattle.docfile.specs.Outcome.{outcome as counted}
+use Rattle.compare.specs.Outcome.{outcomeOf as compared}
+use Rattle.shrikemuff.specs.Outcomes.{edited, spotted}
 use Rattle.shrikemuff.proofs.shrike_read.Kinds as read-kinds
 use Rattle.shrikemuff.proofs.shrike_read.Reads as read
 use Rattle.shrikemuff.proofs.shrike_write.Kinds as write-kinds

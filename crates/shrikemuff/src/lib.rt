@@ -6,15 +6,12 @@
 // Assumes nothing.
 pub mod version;
 
+use compare::Compared;
+use docfile::Count;
 ghost use Rattle.paper.specs.Calls.{Reads, Writes, Translates, Checks, Performs, Compares, Imports, Names, Spots};
-ghost use Rattle.shrikemuff.specs.Outcomes.{counted, edited, compared, spotted};
-
-// "reader and writer [answer] a number and the count of tokens or bytes, 0 when refused"
-#[repr(C)]
-pub struct Count {
-    pub number: u32,
-    pub count: u32,
-}
+ghost use Rattle.docfile.specs.Outcome.{outcome as counted};
+ghost use Rattle.compare.specs.Outcome.{outcomeOf as compared};
+ghost use Rattle.shrikemuff.specs.Outcomes.{edited, spotted};
 
 // "The check answers number and place"
 #[repr(C)]
@@ -34,14 +31,6 @@ pub struct Answer {
     pub children: u32,
 }
 
-// Item 12: yes (1) or no (0), and the length of the sequence that is lost.
-#[repr(C)]
-pub struct Compared {
-    pub number: u32,
-    pub takes_all: u32,
-    pub length: u32,
-}
-
 // Items 4 and 13: the byte offset in a text of what is at fault.
 #[repr(C)]
 pub struct Spot {
@@ -54,11 +43,7 @@ pub struct Spot {
 pub extern "C" fn shrike_read(file: &[u8], tokens: &mut [u32]) -> Count
     ensures { λ r. ⌜ Reads (now (file .entry)) (now (tokens .entry)) (counted r (now (tokens .exit))) ⌝ }
 {
-    let got = docfile::read(file, tokens);
-    Count {
-        number: got.number,
-        count: got.count,
-    }
+    docfile::read(file, tokens)
 }
 
 // Writes every token of the slice into the first bytes of the buffer.
@@ -66,11 +51,7 @@ pub extern "C" fn shrike_read(file: &[u8], tokens: &mut [u32]) -> Count
 pub extern "C" fn shrike_write(tokens: &[u32], file: &mut [u8]) -> Count
     ensures { λ r. ⌜ Writes (now (tokens .entry)) (now (file .entry)) (counted r (now (file .exit))) ⌝ }
 {
-    let put = doc_writer::write(tokens, file);
-    Count {
-        number: put.number,
-        count: put.count,
-    }
+    doc_writer::write(tokens, file)
 }
 
 // Translates a schema file to a table.
@@ -125,12 +106,7 @@ pub extern "C" fn shrike_compare(
 ) -> Compared
     ensures { λ r. ⌜ Compares (now (old .entry)) (now (new .entry)) element (now (sequence .entry)) (compared r (now (sequence .exit))) ⌝ }
 {
-    let told = compare::compare(old, new, element, sequence);
-    Compared {
-        number: told.number,
-        takes_all: told.takes_all,
-        length: told.length,
-    }
+    compare::compare(old, new, element, sequence)
 }
 
 // Turns a DTD text into a schema file, in the first bytes of the buffer.
@@ -138,11 +114,7 @@ pub extern "C" fn shrike_compare(
 pub extern "C" fn shrike_import(text: &[u8], file: &mut [u8]) -> Count
     ensures { λ r. ⌜ Imports (now (text .entry)) (now (file .entry)) (counted r (now (file .exit))) ⌝ }
 {
-    let turned = dtd::import(text, file);
-    Count {
-        number: turned.number,
-        count: turned.count,
-    }
+    dtd::import(text, file)
 }
 
 // Writes the names of a DTD text into the first bytes of the buffer.
@@ -150,11 +122,7 @@ pub extern "C" fn shrike_import(text: &[u8], file: &mut [u8]) -> Count
 pub extern "C" fn shrike_names(text: &[u8], names: &mut [u8]) -> Count
     ensures { λ r. ⌜ Names (now (text .entry)) (now (names .entry)) (counted r (now (names .exit))) ⌝ }
 {
-    let listed = dtd::names(text, names);
-    Count {
-        number: listed.number,
-        count: listed.count,
-    }
+    dtd::names(text, names)
 }
 
 // Tells where a DTD text is refused.

@@ -57,8 +57,8 @@ loop-less c = search decode-less
 loop-again : tie.Need-loop-again Inv-loop μ-loop
 loop-again c = search decode-more
 
-cast-t14 : tie.Need-cast-t14 Inv-loop μ-loop
-cast-t14 c = search needs
+cast-count : tie.Need-cast-count Inv-loop μ-loop
+cast-count c = search needs
 
 same-length-3 : tie.Need-same-length-3 Inv-loop μ-loop
 same-length-3 c = search needs
@@ -87,6 +87,6 @@ decode-spec =
     add-held
     loop-less
     loop-again
-    cast-t14
+    cast-count
     same-length-3
     returns-3)
