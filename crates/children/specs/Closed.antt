@@ -18,7 +18,7 @@ use Rattle.shape_laws.specs.Ends.{rest-none}
 use Rattle.shape_laws.specs.Bridge.{length-toks}
 use Rattle.places.specs.Items.{close-le}
 use Rattle.closing.specs.Closing.{closing, closing-length, closed-at}
-use Rattle.children.specs.Stop.{modelStop}
+use Rattle.stops.specs.Stop.{modelStop}
 
 -- `closes` has, for each place of the document, the place of the end that closes the element that is open there
 pub record Closed (doc : List ℕ) (used : ℕ) (closes : List ℕ) : Type 0 where

@@ -13,9 +13,9 @@ use Rattle.paper.specs.Table.{block, cell, kindAt}
 use Rattle.paper.specs.Rules.{Rules, start, ofTable}
 use Rattle.paper.specs.Judgement.{textOrNone, content, contentGood, contentBegun, stopAfter}
 use Rattle.shape_laws.specs.Bridge.{length-toks}
-use Rattle.children.specs.declared.Stop.{Stop}
-use Rattle.children.specs.declared.Stop.the-variants.{At}
-use Rattle.children.specs.Stop.{stopBy, is-at, contentStop, onlyTexts, textsStop, texts-stop, modelStop, goodFrom, begunFrom, model-stop}
+use Rattle.stops.specs.declared.Stop.{Stop}
+use Rattle.stops.specs.declared.Stop.the-variants.{At}
+use Rattle.stops.specs.Stop.{stopBy, is-at, contentStop, onlyTexts, textsStop, texts-stop, modelStop, goodFrom, begunFrom, model-stop}
 
 -- no text, and one at most
 no-texts : (k : List Tok) → onlyTexts 0 k ≡ null k

@@ -19,9 +19,9 @@ use Rattle.table.specs.declared.Run.{Run}
 use Rattle.table.specs.Run.{stateOf, stepped, inside, Stepped}
 use Rattle.tokens.specs.Sorts.{ends, textTok}
 use Rattle.tokens.specs.Theorems.{start-iff, end-iff, text-iff}
-use Rattle.children.specs.declared.Stop.{Stop}
-use Rattle.children.specs.declared.Stop.the-variants.{Nowhere, At}
-use Rattle.children.specs.Stop.{stopped, modelStop}
+use Rattle.stops.specs.declared.Stop.{Stop}
+use Rattle.stops.specs.declared.Stop.the-variants.{Nowhere, At}
+use Rattle.stops.specs.Stop.{stopped, modelStop}
 use Rattle.children.specs.Closed.{Closed, behind, Next, next-is}
 
 -- ---- no child is left

@@ -1,7 +1,9 @@
 // The content of one element: whether its children are as they must be, and else where they stop to be.
 //
 // One pass over the children, which jumps from a child's start behind its end, and is left at the first with which no valid content begins.
-// Texts are counted; a model is run. The table is a proper one, and nothing is written. Assumes nothing.
+// Texts are counted, by `stops`; a model is run. The table is a proper one, and nothing is written. Assumes nothing.
+use stops::Stop;
+use stops::texts_stop;
 use table::Run;
 use table::block_of;
 use table::cell;
@@ -17,14 +19,8 @@ ghost use Rattle.paper.specs.Tokens.{toks};
 ghost use Rattle.paper.specs.Table.{proper};
 ghost use Rattle.paper.specs.Rules.{start, ended, ofTable};
 ghost use Rattle.table.specs.Run.{stateOf, inside, Ready};
+ghost use Rattle.stops.specs.Stop.{stopped, modelStop, contentStop};
 ghost use Rattle.children.specs.Closed.{Closed, behind};
-ghost use Rattle.children.specs.Stop.{stopped, textsStop, modelStop, contentStop};
-
-// Where content stops: nowhere, if it is as it must be; else at the place of a child, of a text or of the element's end.
-pub enum Stop {
-    Nowhere,
-    At(usize),
-}
 
 // The place behind the element that starts at place i.
 pub fn behind(closes: &[u32], used: usize, i: usize) -> usize
@@ -36,34 +32,6 @@ pub fn behind(closes: &[u32], used: usize, i: usize) -> usize
         return closes[j] as usize + 1;
     }
     used
-}
-
-// The children that stand from a place on are to be so many texts or fewer, and nothing else.
-fn texts_stop(doc: &[u32], used: usize, at: usize, most: u64) -> Stop
-    requires { ⌜ (used ≤ length (now doc)) × (at ≤ used) ⌝ }
-    ensures { λ r. ⌜ r ≡ textsStop most at (drop at (toks (take used (now (doc .entry))))) ⌝ }
-{
-    let mut left = most;
-    let mut i = at;
-    while i < used {
-        let t = doc[i];
-        let place = i;
-        i += 1;
-        if is_end(t) {
-            break;
-        }
-        if is_start(t) {
-            return Stop::At(place);
-        }
-        if !is_text(t) {
-            continue;
-        }
-        if left == 0 {
-            return Stop::At(place);
-        }
-        left -= 1;
-    }
-    Stop::Nowhere
 }
 
 // "or the element's end token if the children stop too early": the run, where no child is left, and the place of that token.

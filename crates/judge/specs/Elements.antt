@@ -20,9 +20,9 @@ use Rattle.shape_laws.specs.Bridge.{length-toks}
 use Rattle.attributes.specs.declared.Front.{Front}
 use Rattle.attributes.specs.Attributes.{Judged}
 use Rattle.tokens.specs.Theorems.{start-iff}
-use Rattle.children.specs.declared.Stop.{Stop}
-use Rattle.children.specs.declared.Stop.the-variants.{Nowhere, At}
-use Rattle.children.specs.Stop.{stopped, contentStop, is-nowhere, is-at}
+use Rattle.stops.specs.declared.Stop.{Stop}
+use Rattle.stops.specs.declared.Stop.the-variants.{Nowhere, At}
+use Rattle.stops.specs.Stop.{stopped, contentStop, is-nowhere, is-at}
 use Rattle.keys.specs.declared.Fault.{Fault}
 
 -- ---- one element

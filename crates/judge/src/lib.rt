@@ -3,10 +3,10 @@
 // One element is judged in one pass over its attributes and one over its children. So a check reads each token a few times, whatever the
 // depth. `check` asks nothing of its arguments, and no call writes to what it is lent. Assumes nothing.
 use attributes::attributes;
-use children::Stop;
 use children::content;
 use keys::Fault;
 use keys::key_fault;
+use stops::Stop;
 use tokens::is_start;
 use tokens::number;
 ghost use mathlib.Core.Path.{_≡_};

@@ -12,8 +12,8 @@ use Rattle.paper.specs.declared.Tok.the-variants.{Start, End, Text, Attr, Value
 use Rattle.paper.specs.Tokens.{kids, childAt}
 use Rattle.paper.specs.Rules.{Rules, State, at, mayEnd, move, runFrom, ended, goesOn}
 use Rattle.paper.specs.Judgement.{noText, named, contentGood, contentBegun, stopAfter}
-use Rattle.children.specs.declared.Stop.{Stop}
-use Rattle.children.specs.declared.Stop.the-variants.{Nowhere, At}
+use Rattle.stops.specs.declared.Stop.{Stop}
+use Rattle.stops.specs.declared.Stop.the-variants.{Nowhere, At}
 
 -- nowhere if all is good, else at a place
 abbrev pub stopped : Bool → ℕ → Stop

@@ -14,8 +14,8 @@ use Rattle.basic_laws.specs.Bools.{clash}
 use Rattle.shape_laws.specs.Ends.{rest-next, rest-none}
 use Rattle.tokens.specs.Sorts.{ends, textTok}
 use Rattle.tokens.specs.Theorems.{start-iff, end-iff, text-iff}
-use Rattle.children.specs.declared.Stop.the-variants.{Nowhere, At}
-use Rattle.children.specs.Stop.{textsStop}
+use Rattle.stops.specs.declared.Stop.the-variants.{Nowhere, At}
+use Rattle.stops.specs.Stop.{textsStop}
 
 -- what is no start, no end and no text is passed over
 other : (x : Tok) (n i : ℕ) (r : List Tok) → starts x ≡ false → ends x ≡ false → textTok x ≡ false → textsStop n i (x ∷ r) ≡ textsStop n (suc i) r

@@ -1,9 +1,9 @@
--- `children::texts_stop` meets its contract. The loop's invariant is `Reading`; the measure is how many tokens are left. Assumes nothing.
+-- `stops::texts_stop` meets its contract. The loop's invariant is `Reading`; the measure is how many tokens are left. Assumes nothing.
 use Prim.Native.Nat.{_-_}
 use borrow.Author.Needs.{needs}
-use Rattle.children.specs.Texts.{Reading, reading-begin, reading-out, reading-end, reading-start, reading-other, reading-more, reading-text}
-use Rattle.children.proofs.texts_stop.Statement.{statement}
-use Rattle.children.proofs.texts_stop.Tie as tie
+use Rattle.stops.specs.Texts.{Reading, reading-begin, reading-out, reading-end, reading-start, reading-other, reading-more, reading-text}
+use Rattle.stops.proofs.texts_stop.Statement.{statement}
+use Rattle.stops.proofs.texts_stop.Tie as tie
 
 abbrev Inv-loop : tie.InvT-loop
 Inv-loop doc used at most left₀ i₀ left i = Reading doc used at most i left
