@@ -8,7 +8,7 @@ use native.Mathlib.Nat.{div-add-mod'}
 use borrow.Author.Tests.{eq-eqb, ne-eqb, not-true, not-false}
 use lib.Bits.{bitOr}
 use lib.Dec.{eqb}
-use lib.ListN.{length, getD, set, replicate, length-set}
+use lib.ListN.{length, getD, set, replicate}
 use lib.Seq.{getD-set-same, getD-set-other}
 use Rattle.paper.specs.Basics.{elem}
 use Rattle.paper.specs.Sets.{bit}

@@ -1,8 +1,8 @@
 -- The fault of a document's IDs and references, from both passes. Assumes nothing.
 use mathlib.Core.Path.{_≡_, refl, sym, ap, ap₂, _∙_}
-use mathlib.Core.Bool.{Bool, cond}
+use mathlib.Core.Bool.{cond}
 use mathlib.Core.List.{List, [], _∷_, map}
-use Prim.Native.Nat.{ℕ, zero, suc, _≤_, _<_}
+use Prim.Native.Nat.{ℕ, zero, suc, _≤_}
 use lib.ListN.{length, take}
 use Rattle.paper.specs.Basics.{elem}
 use Rattle.paper.specs.Tokens.{toks}
@@ -43,9 +43,10 @@ module _ (table doc : List ℕ) (used : ℕ) (from : Walk) {field : List ℕ} {m
       go (suc k) i h = refl
 
   -- none is: the references decide
-  pub fault-dangling : {r : Fault} → m .fault .number ≡ 0 → answerOf r ≡ unmarked field (refsLeft table doc used (m .refs)) → answerOf r ≡ faultFrom table doc used from
+  pub fault-dangling : {r : Fault} → m .fault .number ≡ 0 → answerOf r ≡ unmarked field (refsLeft table doc used (m .refs .at))
+      → answerOf r ≡ faultFrom table doc used from
   fault-dangling h e =
-      e ∙ ap (unmarked field) (c .begin h) ∙ unmarked-dangling field (map valueIn (idsLeft table doc used from)) (c .holds h) (refsLeft table doc used from)
+      e ∙ ap (unmarked field) (c .same h) ∙ unmarked-dangling field (map valueIn (idsLeft table doc used from)) (c .holds h) (refsLeft table doc used from)
       ∙ rw h at by-ids
 
 -- ---- from the front

@@ -1,11 +1,11 @@
 -- The first pass: each ID is marked, and one that was marked before is told. Assumes nothing.
 use mathlib.Core.Path.{_≡_, refl, sym, ap, _∙_}
-use mathlib.Core.Bool.{Bool, true, false, cond, not, _&&_, _||_, or-assoc, or-comm, or-false, and-eq-true-iff}
+use mathlib.Core.Bool.{Bool, true, false, cond, not, _&&_, _||_, or-false}
 use mathlib.Core.List.{List, [], _∷_, map}
-use Prim.Native.Nat.{ℕ, zero, suc, _+_, _-_, _/_, _≤_, _<_}
+use Prim.Native.Nat.{ℕ, _+_, _-_, _/_, _≤_, _<_}
 use native.Mathlib.Omega.{arith}
-use borrow.Author.Tests.{ltb-true}
-use lib.Dec.{ltb, eqb}
+use borrow.Author.Tests.{eqb-true, eqb-false, eq-eqb, ne-eqb, not-true, not-false}
+use lib.Dec.{eqb}
 use lib.ListN.{length, take, getD, length-set}
 use Rattle.paper.specs.Basics.{elem, consIf}
 use Rattle.paper.specs.Tokens.{tokOf, toks}
@@ -16,10 +16,9 @@ use Rattle.tokens.specs.Sorts.{valueTok}
 use Rattle.tokens.specs.Theorems.{value-small}
 use Rattle.field.specs.Field.{marked, mark, Field, field-mark, Noted}
 use Rattle.walk.specs.declared.Walk.{Walk}
-use Rattle.walk.specs.Walk.{left, onward, left-value, left-none, valueAt, Found}
+use Rattle.walk.specs.Walk.{left, onward, left-value, left-none}
 use Rattle.keys.specs.declared.Fault.{Fault}
 use Rattle.keys.specs.declared.Refs.{Refs}
-use Rattle.keys.specs.declared.Marked.{Marked}
 
 -- 65,536 bits
 abbrev pub fieldWords : ℕ
@@ -124,37 +123,94 @@ module _ (table doc : List ℕ) (used : ℕ) (from : Walk) {field : List ℕ} wh
               swap false b c = refl
           go false p q a = rw a (marking-move (sym p))
 
--- ---- where references begin
+-- ---- references
 
--- once the walk has come to a key
-abbrev pub noted : List ℕ → Refs → Walk → Refs
-noted table refs at = cond (refs .found) refs (record { at = at; found = isRef (ofTable table) (at .element) (at .attribute) })
+-- those met, once the values of the walk's attribute, up to place i, were passed
+abbrev pub noted : List ℕ → Refs → Walk → ℕ → Refs
+noted table refs at i =
+    cond (isRef (ofTable table) (at .element) (at .attribute))
+    (cond (eqb (refs .count) 0) (record { at = at; count = i - at .place }) (record { at = refs .at; count = refs .count + (i - at .place) }))
+    refs
 
-pub noted-before : (table : List ℕ) (refs : Refs) (at : Walk) → refs .found ≡ true → refs ≡ noted table refs at
-noted-before table refs at e = rw e
+module _ (table : List ℕ) (refs : Refs) (at : Walk) (i : ℕ) {y : Bool} (ey : y ≡ isRef (ofTable table) (at .element) (at .attribute)) where
+  pub noted-none : not y ≡ true → refs ≡ noted table refs at i
+  noted-none n = rw (sym ey ∙ not-true y n)
 
-pub noted-here : (table : List ℕ) (refs : Refs) (at : Walk) {r : Bool} → refs .found ≡ false → r ≡ isRef (ofTable table) (at .element) (at .attribute)
-    → record { at = at; found = r } ≡ noted table refs at
-noted-here table refs at e r = rw (e, r)
+  pub noted-first : not y ≡ false → refs .count ≡ 0 → record { at = at; count = i - at .place } ≡ noted table refs at i
+  noted-first n z = rw (sym ey ∙ not-false y n, eq-eqb (refs .count) 0 z)
 
--- none stands before that place; and where none was found, none before the walk
-pub record Ahead (table doc : List ℕ) (used : ℕ) (from : Walk) (refs : Refs) (w : Walk) : Type 0 where
+  pub noted-more : {first : Walk} → not y ≡ false → (refs .count ≡ 0 → ⊥) → first ≡ refs .at
+      → record { at = first; count = refs .count + (i - at .place) } ≡ noted table refs at i
+  noted-more n z e = rw (sym ey ∙ not-false y n, ne-eqb (refs .count) 0 z, e)
+
+-- those met before a walk, of all: none stands before the first of them
+pub record Counted (table doc : List ℕ) (used : ℕ) (from : Walk) (refs : Refs) (w : Walk) : Type 0 where
   pub early : refs .at .place ≤ used
+  pub few : refs .count ≤ w .place
   pub same : refsLeft table doc used (refs .at) ≡ refsLeft table doc used from
-  pub none : refs .found ≡ false → refsLeft table doc used w ≡ refsLeft table doc used (refs .at)
+  pub told : refs .count + length (refsLeft table doc used w) ≡ length (refsLeft table doc used from)
+  pub none : refs .count ≡ 0 → refsLeft table doc used w ≡ refsLeft table doc used from
 
-module _ (table doc : List ℕ) (used : ℕ) (from : Walk) where
-  pub ahead-none : from .place ≤ used → Ahead table doc used from (record { at = from; found = false }) from
-  ahead-none h = record { early = h; same = refl; none = λ e. refl }
+-- the values of the walk's attribute, up to place i: as many references are gone, or none
+pub record Passed (table doc : List ℕ) (used : ℕ) (at : Walk) (i : ℕ) : Type 0 where
+  pub kept : isRef (ofTable table) (at .element) (at .attribute) ≡ false → refsLeft table doc used (at-place at i) ≡ refsLeft table doc used at
+  pub gone : isRef (ofTable table) (at .element) (at .attribute) ≡ true
+      → i - at .place + length (refsLeft table doc used (at-place at i)) ≡ length (refsLeft table doc used at)
 
-  pub ahead-more : {refs now : Refs} {w to : Walk} → Ahead table doc used from refs w → w .place ≤ used → now ≡ noted table refs w
-      → (isRef (ofTable table) (w .element) (w .attribute) ≡ false → refsLeft table doc used to ≡ refsLeft table doc used w)
-      → Ahead table doc used from now to
-  ahead-more {refs} {now} {w} {to} a h e p = rw e (go (refs .found) refl)
+module _ (table doc : List ℕ) (used : ℕ) where
+  pub counted-none : (from : Walk) → from .place ≤ used → Counted table doc used from (record { at = from; count = 0 }) from
+  counted-none from h = record { early = h; few = omega arith; same = refl; told = omega arith; none = λ e. refl }
+
+  pub passed-none : (at : Walk) → Passed table doc used at (at .place)
+  passed-none at = record { kept = λ e. refl; gone = λ e. omega arith }
+
+  pub passed-more : (at : Walk) {i : ℕ} → Passed table doc used at i → at .place ≤ i → i < used → used ≤ length doc → valueTok (tokOf (getD doc i 0)) ≡ true
+      → Passed table doc used at (i + 1)
+  passed-more at {i} p o h l t = record {
+    kept = λ f. sym (step ∙ ap (λ b. consIf b (i, getD doc i 0 / 8) (refsLeft table doc used (at-place at (i + 1)))) f) ∙ p .kept f;
+    gone = λ g. let e = ap length (step ∙ ap (λ b. consIf b (i, getD doc i 0 / 8) (refsLeft table doc used (at-place at (i + 1)))) g) in omega (arith, e, p .gone g);
+  }
+    where
+      step : refsLeft table doc used (at-place at i)
+          ≡ consIf (isRef (ofTable table) (at .element) (at .attribute)) (i, getD doc i 0 / 8) (refsLeft table doc used (at-place at (i + 1)))
+      step = left-value (isRef (ofTable table)) doc used (at-place at i) h l t
+
+  pub counted-more : (from : Walk) {refs now : Refs} {w to : Walk} {i : ℕ} → Counted table doc used from refs w → w .place ≤ used → w .place ≤ i → i ≤ to .place
+      → now ≡ noted table refs w i → Passed table doc used w i → refsLeft table doc used to ≡ refsLeft table doc used (at-place w i)
+      → Counted table doc used from now to
+  counted-more from {refs} {now} {w} {to} {i} c h o u e p r = rw e (go (isRef (ofTable table) (w .element) (w .attribute)) refl (eqb (refs .count) 0) refl)
     where
       here : Refs
-      here = record { at = w; found = isRef (ofTable table) (w .element) (w .attribute) }
+      here = record { at = w; count = i - w .place }
 
-      go : (b : Bool) → refs .found ≡ b → Ahead table doc used from (cond b refs here) to
-      go true f = record { early = a .early; same = a .same; none = λ g. clash f g }
-      go false f = record { early = h; same = a .none f ∙ a .same; none = p }
+      more : Refs
+      more = record { at = refs .at; count = refs .count + (i - w .place) }
+
+      length-to : length (refsLeft table doc used to) ≡ length (refsLeft table doc used (at-place w i))
+      length-to = ap length r
+
+      go : (b : Bool) → isRef (ofTable table) (w .element) (w .attribute) ≡ b → (z : Bool) → eqb (refs .count) 0 ≡ z
+          → Counted table doc used from (cond b (cond z here more) refs) to
+      go false f z ez = record {
+        early = c .early;
+        few = omega (arith, c .few);
+        same = c .same;
+        told = ap (λ l. refs .count + length l) (r ∙ p .kept f) ∙ c .told;
+        none = λ g. r ∙ p .kept f ∙ c .none g;
+      }
+      go true f true ez =
+          let zero-count : refs .count ≡ 0 = eqb-true (refs .count) 0 ez in
+          record {
+            early = h;
+            few = omega arith;
+            same = c .none zero-count;
+            told = ap (λ k. i - w .place + k) length-to ∙ p .gone f ∙ ap length (c .none zero-count);
+            none = λ g. let q : i ≡ w .place = omega arith in r ∙ ap (λ k. refsLeft table doc used (at-place w k)) q ∙ c .none zero-count;
+          }
+      go true f false ez = record {
+        early = c .early;
+        few = omega (arith, c .few);
+        same = c .same;
+        told = omega (arith, c .told, p .gone f, length-to);
+        none = λ g. absurd (eqb-false (refs .count) 0 ez (omega arith));
+      }

@@ -17,17 +17,18 @@ use walk::pass;
 ghost use mathlib.Core.Path.{_≡_};
 ghost use mathlib.Core.Bool.{true};
 ghost use mathlib.Core.List.{[]};
-ghost use Prim.Native.Nat.{_≤_};
+ghost use Prim.Native.Nat.{_+_, _-_, _^_, _≤_, _<_};
 ghost use lib.ListN.{length, take};
 ghost use Rattle.paper.specs.Basics.{mostTokens};
 ghost use Rattle.paper.specs.Table.{proper};
-ghost use Rattle.paper.specs.Tokens.{toks};
+ghost use Rattle.paper.specs.Tokens.{tokOf, toks};
 ghost use Rattle.paper.specs.Rules.{ofTable};
-ghost use Rattle.paper.specs.Judgement.{keyFault};
+ghost use Rattle.paper.specs.Judgement.{isRef, keyFault};
 ghost use Rattle.field.specs.Field.{Field};
+ghost use Rattle.walk.specs.Walk.{valueOf};
 ghost use Rattle.keys.specs.Marking.{fieldWords, faultOf, Begun, noted, refsLeft};
-ghost use Rattle.keys.specs.Turns.{Marks};
-ghost use Rattle.keys.specs.Looking.{unmarked, dangles};
+ghost use Rattle.keys.specs.Turns.{Owed, Marks};
+ghost use Rattle.keys.specs.Looking.{unmarked};
 ghost use Rattle.keys.specs.Answer.{faultFrom};
 
 // The answer's number and place; 0 and 0: no fault.
@@ -36,16 +37,16 @@ pub struct Fault {
     pub place: u32,
 }
 
-// Where the references begin: at the walk, where one was found; else from the walk on.
+// The references met: so many, the first of them from the walk on.
 struct Refs {
     at: Walk,
-    found: bool,
+    count: usize,
 }
 
-// What a pass over the IDs finds: the first that was met earlier, and where the references begin.
+// What a pass over the IDs finds: the first that was met earlier, and the references.
 struct Marked {
     fault: Fault,
-    refs: Walk,
+    refs: Refs,
 }
 
 // No fault.
@@ -58,17 +59,22 @@ fn none() -> Fault
     }
 }
 
-// Where the references begin, once a walk has come to a key.
-fn first_of(table: &[u64], refs: Refs, at: Walk) -> Refs
-    requires { ⌜ proper (now table) ≡ true ⌝ }
-    ensures { λ r. ⌜ r ≡ noted (now (table .entry)) refs at ⌝ }
+// The references met, once the values of the walk's attribute, up to place i, were passed.
+fn counted(table: &[u64], refs: Refs, at: Walk, i: usize) -> Refs
+    requires { ⌜ (proper (now table) ≡ true) × (at .place ≤ i) × (refs .count + (i - at .place) < 2 ^ 64) ⌝ }
+    ensures { λ r. ⌜ r ≡ noted (now (table .entry)) refs at i ⌝ }
 {
-    if refs.found {
+    if !is_reference(table, at.element, at.attribute) {
         return refs;
     }
+    let values = i - at.place;
+    if refs.count == 0 {
+        return Refs { at, count: values };
+    }
+    let first = refs.at;
     Refs {
-        at,
-        found: is_reference(table, at.element, at.attribute),
+        at: first,
+        count: refs.count + values,
     }
 }
 
@@ -81,13 +87,9 @@ fn mark_ids(table: &[u64], doc: &[u32], used: usize, from: Walk, field: &mut [u6
     ensures { λ r. ⌜ Marks (now (table .entry)) (now (doc .entry)) used from (now (field .exit)) r ⌝ }
 {
     let mut fault = none();
-    let mut refs = Refs {
-        at: from,
-        found: false,
-    };
+    let mut refs = Refs { at: from, count: 0 };
     let mut at = from;
     'ids: while at.place < used {
-        refs = first_of(table, refs, at);
         let id = is_id(table, at.element, at.attribute);
         let mut i = at.place;
         while is_value_at(doc, used, i) {
@@ -101,6 +103,7 @@ fn mark_ids(table: &[u64], doc: &[u32], used: usize, from: Walk, field: &mut [u6
             }
             i += 1;
         }
+        refs = counted(table, refs, at, i);
         let behind = Walk {
             place: i,
             element: at.element,
@@ -108,42 +111,45 @@ fn mark_ids(table: &[u64], doc: &[u32], used: usize, from: Walk, field: &mut [u6
         };
         at = next_key(table, doc, used, behind);
     }
-    let first = refs.at;
-    Marked { fault, refs: first }
+    Marked { fault, refs }
 }
 
-// The token at the walk's place is a reference value that is not marked.
-fn dangles(table: &[u64], at: Walk, t: u32, field: &[u64]) -> bool
-    requires { ⌜ (proper (now table) ≡ true) × (length (now field) ≡ fieldWords) ⌝ }
-    ensures { λ r. ⌜ r ≡ dangles (now (table .entry)) at t (now (field .entry)) ⌝ }
+// The token at the walk's place is a reference value.
+fn is_reference_at(table: &[u64], at: Walk, t: u32) -> bool
+    requires { ⌜ proper (now table) ≡ true ⌝ }
+    ensures { λ r. ⌜ r ≡ valueOf (isRef (ofTable (now (table .entry)))) at (tokOf t) ⌝ }
 {
     if !is_value(t) {
         return false;
     }
-    if !is_reference(table, at.element, at.attribute) {
-        return false;
-    }
-    !is_marked(field, number(t))
+    is_reference(table, at.element, at.attribute)
 }
 
-// "a reference value that is no ID in the document (12, that token)": of the references from the walk on, the field being that of all IDs.
-fn dangling_reference(table: &[u64], doc: &[u32], used: usize, from: Walk, field: &[u64]) -> Fault
+// "a reference value that is no ID in the document (12, that token)": of the references, the field being that of all IDs. The pass ends
+// with the last of them.
+fn dangling_reference(table: &[u64], doc: &[u32], used: usize, refs: Refs, field: &[u64]) -> Fault
     requires { ⌜ (proper (now table) ≡ true) × (used ≤ length (now doc)) × (used ≤ mostTokens) ⌝ }
-    requires { ⌜ (from .place ≤ used) × (length (now field) ≡ fieldWords) ⌝ }
-    ensures { λ r. ⌜ (r .number, r .place) ≡ unmarked (now (field .entry)) (refsLeft (now (table .entry)) (now (doc .entry)) used from) ⌝ }
+    requires { ⌜ Owed (now table) (now doc) used refs × (length (now field) ≡ fieldWords) ⌝ }
+    ensures { λ r. ⌜ (r .number, r .place) ≡ unmarked (now (field .entry)) (refsLeft (now (table .entry)) (now (doc .entry)) used (refs .at)) ⌝ }
 {
-    let mut at = from;
-    while at.place < used {
-        let i = at.place;
-        let place = i as u32;
+    let mut at = refs.at;
+    let mut left = refs.count;
+    while left != 0 {
+        let key = next_key(table, doc, used, at);
+        let i = key.place;
+        let here = i as u32;
         let t = doc[i];
-        if dangles(table, at, t, field) {
+        at = pass(key, t);
+        if !is_reference_at(table, key, t) {
+            continue;
+        }
+        if !is_marked(field, number(t)) {
             return Fault {
                 number: paper::NO_ID,
-                place,
+                place: here,
             };
         }
-        at = next_key(table, doc, used, pass(at, t));
+        left -= 1;
     }
     none()
 }
@@ -159,7 +165,8 @@ fn fault_from(table: &[u64], doc: &[u32], used: usize, from: Walk) -> Fault
     if marked.fault.number != 0 {
         return marked.fault;
     }
-    dangling_reference(table, doc, used, marked.refs, &field)
+    let refs = marked.refs;
+    dangling_reference(table, doc, used, refs, &field)
 }
 
 // The first fault among the IDs, else among the references.

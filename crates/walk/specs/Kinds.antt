@@ -1,10 +1,11 @@
 -- Which attributes of an element are IDs, and which are references, by the sets of its block. Assumes nothing.
 use mathlib.Core.Path.{_≡_, sym, ap, _∙_}
-use mathlib.Core.Bool.{Bool, true, false, not, _&&_, _||_, and-comm, and-eq-true-iff}
+use mathlib.Core.Bool.{Bool, true, false, not, _||_, and-comm, and-eq-true-iff}
 use mathlib.Core.Logic.{inl, inr}
 use mathlib.Core.List.{List}
 use Prim.Native.Nat.{ℕ, _^_, _≤_, _<_}
-use borrow.Author.Tests.{lt-ltb, le-ltb}
+use borrow.Author.Tests.{ltb-true, not-true, not-false}
+use lib.Dec.{ltb}
 use lib.ListN.{getD}
 use lib.Bits.{bitOr, or-lt}
 use Rattle.paper.specs.Sets.{bit}
@@ -44,36 +45,40 @@ in-allowed b e =
 member : (w v a : ℕ) → within w v ≡ true → a < 64 → bit w a ≡ true → bit v a ≡ true
 member w v a e h m = rw m at (every-iff (λ k. not (bit w k) || bit v k) 64 .0 e a h)
 
-module _ (t : List ℕ) (e a : ℕ) where
+module _ (t : List ℕ) (e : ℕ) {y : Bool} (ey : y ≡ ltb e (getD t 0 0)) where
+  pub is-below : not y ≡ false → e < getD t 0 0
+  is-below n = ltb-true e (getD t 0 0) (sym ey ∙ not-false y n)
+
   abbrev b : List ℕ
   b = block t e
 
   -- those of an undeclared element are neither
-  pub id-none : getD t 0 0 ≤ e → false ≡ isId (ofTable t) e a
-  id-none h = rw (le-ltb e (getD t 0 0) h)
+  module _ (a : ℕ) (n : not y ≡ true) where
+    pub id-none : false ≡ isId (ofTable t) e a
+    id-none = rw (sym ey ∙ not-true y n)
 
-  pub ref-none : getD t 0 0 ≤ e → false ≡ isRef (ofTable t) e a
-  ref-none h = rw (le-ltb e (getD t 0 0) h)
+    pub ref-none : false ≡ isRef (ofTable t) e a
+    ref-none = rw (sym ey ∙ not-true y n)
 
-  module _ (p : proper t ≡ true) (h : e < getD t 0 0) where
+  module _ (a : ℕ) (p : proper t ≡ true) (n : not y ≡ false) where
     sets : InAllowed b
-    sets = in-allowed b (block-parts (getD t 0 0) b (table-parts t p .blocks e h) .sets)
+    sets = in-allowed b (block-parts (getD t 0 0) b (table-parts t p .blocks e (is-below n)) .sets)
 
     pub id-some : {x : ℕ} {r : Bool} → x ≡ cell b idAt → x < 2 ^ 64 → r ≡ bit x a → r ≡ isId (ofTable t) e a
     id-some {x} {r} ex l er =
         let in-it : bit (cell b idAt) a ≡ true → bit (cell b allowedAt) a ≡ true
         = λ m. member (cell b idAt) (cell b allowedAt) a (sets .id-in) (bit-below 64 (cell b idAt) a (rw ex at l) m) m in
-        rw (lt-ltb e (getD t 0 0) h) (er ∙ ap (λ w. bit w a) ex
+        rw (sym ey ∙ not-false y n) (er ∙ ap (λ w. bit w a) ex
         ∙ sym (and-comm (bit (cell b allowedAt) a) (bit (cell b idAt) a) ∙ meet (bit (cell b idAt) a) (bit (cell b allowedAt) a) in-it))
 
-    pub ref-some : {x y : ℕ} {r : Bool} → x ≡ cell b idrefAt → x < 2 ^ 64 → y ≡ cell b idrefsAt → y < 2 ^ 64 → r ≡ bit (bitOr x y) a
+    pub ref-some : {x z : ℕ} {r : Bool} → x ≡ cell b idrefAt → x < 2 ^ 64 → z ≡ cell b idrefsAt → z < 2 ^ 64 → r ≡ bit (bitOr x z) a
         → r ≡ isRef (ofTable t) e a
-    ref-some {x} {y} {r} ex lx ey ly er =
-        let in-it : (bit x a || bit y a) ≡ true → bit (cell b allowedAt) a ≡ true = λ m.
-        let s : a < 64 = bit-below 64 (bitOr x y) a (or-lt 64 x y lx ly) (bit-or x y a ∙ m) in
-        elim (either (bit x a) (bit y a) m) [
+    ref-some {x} {z} {r} ex lx ez lz er =
+        let in-it : (bit x a || bit z a) ≡ true → bit (cell b allowedAt) a ≡ true = λ m.
+        let s : a < 64 = bit-below 64 (bitOr x z) a (or-lt 64 x z lx lz) (bit-or x z a ∙ m) in
+        elim (either (bit x a) (bit z a) m) [
           | inl m ↦ member (cell b idrefAt) (cell b allowedAt) a (sets .idref-in) s (rw ex at m)
-          | inr m ↦ member (cell b idrefsAt) (cell b allowedAt) a (sets .idrefs-in) s (rw ey at m)
+          | inr m ↦ member (cell b idrefsAt) (cell b allowedAt) a (sets .idrefs-in) s (rw ez at m)
         ] in
-        rw (lt-ltb e (getD t 0 0) h, ← ex, ← ey) (er ∙ bit-or x y a
-        ∙ sym (and-comm (bit (cell b allowedAt) a) (bit x a || bit y a) ∙ meet (bit x a || bit y a) (bit (cell b allowedAt) a) in-it))
+        rw (sym ey ∙ not-false y n, ← ex, ← ez) (er ∙ bit-or x z a
+        ∙ sym (and-comm (bit (cell b allowedAt) a) (bit x a || bit z a) ∙ meet (bit x a || bit z a) (bit (cell b allowedAt) a) in-it))

@@ -11,7 +11,8 @@ use tokens::number;
 ghost use mathlib.Core.Path.{_≡_};
 ghost use mathlib.Core.Bool.{true};
 ghost use Prim.Native.Nat.{_+_, _≤_, _<_, _^_};
-ghost use lib.ListN.{length};
+ghost use lib.Dec.{ltb};
+ghost use lib.ListN.{length, getD};
 ghost use Rattle.paper.specs.Sets.{bit};
 ghost use Rattle.paper.specs.Table.{proper};
 ghost use Rattle.paper.specs.Tokens.{tokOf};
@@ -36,13 +37,21 @@ fn is_in(set: u64, attribute: u32) -> bool
     has(set, attribute)
 }
 
+// The element is declared.
+fn is_declared(table: &[u64], element: u32) -> bool
+    requires { ⌜ proper (now table) ≡ true ⌝ }
+    ensures { λ r. ⌜ r ≡ ltb element (getD (now (table .entry)) 0 0) ⌝ }
+{
+    (element as u64) < table[0]
+}
+
 // The values of the element's attribute are IDs. "Attributes not allowed at their element, or at an undeclared one, are neither IDs nor
 // references." In a proper table IDs and references are allowed, so their sets are enough.
 pub fn is_id(table: &[u64], element: u32, attribute: u32) -> bool
     requires { ⌜ proper (now table) ≡ true ⌝ }
     ensures { λ r. ⌜ r ≡ isId (ofTable (now (table .entry))) element attribute ⌝ }
 {
-    if element as u64 >= table[0] {
+    if !is_declared(table, element) {
         return false;
     }
     is_in(cell(table, element as usize, paper::ID_AT), attribute)
@@ -53,7 +62,7 @@ pub fn is_reference(table: &[u64], element: u32, attribute: u32) -> bool
     requires { ⌜ proper (now table) ≡ true ⌝ }
     ensures { λ r. ⌜ r ≡ isRef (ofTable (now (table .entry))) element attribute ⌝ }
 {
-    if element as u64 >= table[0] {
+    if !is_declared(table, element) {
         return false;
     }
     let name = element as usize;

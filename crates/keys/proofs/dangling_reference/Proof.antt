@@ -1,45 +1,60 @@
 -- `keys::dangling_reference` meets its contract. The invariant is `Looking`; the measure is how many tokens are left. Assumes nothing.
 use Prim.Native.Nat.{_-_}
 use borrow.Author.Needs.{needs}
-use Rattle.keys.specs.Looking.{Looking, look-none, look-end, look-found, look-on, look-more, look-less}
+use Rattle.keys.specs.Looking.{Looking, look-none, look-end, look-in, look-read, look-pass, look-bit, look-found, look-more, look-less}
 use Rattle.keys.proofs.dangling_reference.Statement.{statement}
 use Rattle.keys.proofs.dangling_reference.Tie as tie
 
 abbrev Inv-loop : tie.InvT-loop
-Inv-loop table doc used field from at = Looking table doc used from field at
+Inv-loop table doc used field from left₀ at left = Looking table doc used from field at left
 
 abbrev μ-loop : tie.MeasureT-loop
-μ-loop table doc used field from at = used - at .place
+μ-loop table doc used field from left₀ at left = used - at .place
 
 loop-holds : tie.Need-loop-holds Inv-loop μ-loop
 loop-holds c = search look-none
 
-cast-place : tie.Need-cast-place Inv-loop μ-loop
-cast-place c = search needs
+next-key-requires : tie.Need-next-key-requires Inv-loop μ-loop
+next-key-requires c κs = search needs
+
+cast-here : tie.Need-cast-here Inv-loop μ-loop
+cast-here c = search (needs, look-in)
 
 mul-t : tie.Need-mul-t Inv-loop μ-loop
 mul-t c = search needs
 
 shared-slice-read-t : tie.Need-shared-slice-read-t Inv-loop μ-loop
-shared-slice-read-t c = search needs
-
-dangles-requires : tie.Need-dangles-requires Inv-loop μ-loop
-dangles-requires c κs = search needs
-
-returns : tie.Need-returns Inv-loop μ-loop
-returns c = search look-found
+shared-slice-read-t c = search look-read
 
 pass-requires : tie.Need-pass-requires Inv-loop μ-loop
-pass-requires c κs = search needs
+pass-requires c κs = search (needs, look-in)
 
-next-key-requires : tie.Need-next-key-requires Inv-loop μ-loop
-next-key-requires c κs = search (needs, look-on)
+is-reference-at-requires : tie.Need-is-reference-at-requires Inv-loop μ-loop
+is-reference-at-requires c κs = search needs
 
 loop-less : tie.Need-loop-less Inv-loop μ-loop
 loop-less c = search look-less
 
 loop-again : tie.Need-loop-again Inv-loop μ-loop
-loop-again c = search look-more
+loop-again c = search look-pass
+
+number-requires : tie.Need-number-requires Inv-loop μ-loop
+number-requires c κs = search needs
+
+is-marked-requires : tie.Need-is-marked-requires Inv-loop μ-loop
+is-marked-requires c κs = search look-bit
+
+returns : tie.Need-returns Inv-loop μ-loop
+returns c = search look-found
+
+sub-left : tie.Need-sub-left Inv-loop μ-loop
+sub-left c = search needs
+
+loop-less-2 : tie.Need-loop-less-2 Inv-loop μ-loop
+loop-less-2 c = search look-less
+
+loop-again-2 : tie.Need-loop-again-2 Inv-loop μ-loop
+loop-again-2 c = search look-more
 
 none-requires : tie.Need-none-requires Inv-loop μ-loop
 none-requires c κs = search needs
@@ -54,14 +69,19 @@ dangling-reference-spec =
     Inv-loop
     μ-loop
     loop-holds
-    cast-place
+    next-key-requires
+    cast-here
     mul-t
     shared-slice-read-t
-    dangles-requires
-    returns
     pass-requires
-    next-key-requires
+    is-reference-at-requires
     loop-less
     loop-again
+    number-requires
+    is-marked-requires
+    returns
+    sub-left
+    loop-less-2
+    loop-again-2
     none-requires
     returns-2)

@@ -19,7 +19,7 @@ slice-aggregate-dangling-reference : tie.Need-slice-aggregate-dangling-reference
 slice-aggregate-dangling-reference c = search needs
 
 dangling-reference-requires : tie.Need-dangling-reference-requires
-dangling-reference-requires c κs = search needs
+dangling-reference-requires c κs = search (needs, c .before .before .before .before .before .mark-ids .ensures .owed)
 
 returns-2 : tie.Need-returns-2
 returns-2 c = search fault-dangling

@@ -1,11 +1,9 @@
 -- `keys::mark_ids` meets its contract. The invariants are `Going` and, of the inner loop, `Among`; the measures are how many tokens are
 -- left. Assumes nothing.
-use mathlib.Core.Path.{sym, _∙_}
-use mathlib.Core.Logic.{⊎-elim}
 use Prim.Native.Nat.{_-_}
 use native.Mathlib.Omega.{arith}
 use borrow.Author.Needs.{needs}
-use Rattle.keys.specs.Turns.{marks-same, Going, Among, going-none, going-end, going-twice, going-more, going-less, among-none, among-here, among-less, among-bit, among-more}
+use Rattle.keys.specs.Turns.{Going, Among, going-none, going-end, going-twice, going-more, going-few, going-less, among-none, among-here, among-less, among-bit, among-more}
 use Rattle.keys.proofs.mark_ids.Statement.{statement}
 use Rattle.keys.proofs.mark_ids.Tie as tie
 
@@ -27,9 +25,6 @@ none-requires c κs = search needs
 ids-holds : tie.Need-ids-holds Inv-loop μ-loop Inv-ids μ-ids
 ids-holds c = search going-none
 
-first-of-requires : tie.Need-first-of-requires Inv-loop μ-loop Inv-ids μ-ids
-first-of-requires c κs = search needs
-
 is-id-requires : tie.Need-is-id-requires Inv-loop μ-loop Inv-ids μ-ids
 is-id-requires c κs = search needs
 
@@ -48,7 +43,7 @@ mul-number c = search needs
 shared-slice-read-number : tie.Need-shared-slice-read-number Inv-loop μ-loop Inv-ids μ-ids
 shared-slice-read-number c =
     let v = c .before .before .before in
-    let s = v .before .before .before .before .before .before .before .before .before .before .before in
+    let s = v .before .before .before .before .before .before .before .before .before .before in
     let l = s .pre .0 .1 in
     let h = among-here (s .args .table .now) (s .args .doc .now) (s .args .used) (v .before .loop .inv) l (v .is-value-at .ensures) (c .before .before .if2 .taken) in
     omega (arith, h, l)
@@ -68,6 +63,9 @@ loop-less c = search among-less
 loop-again : tie.Need-loop-again Inv-loop μ-loop Inv-ids μ-ids
 loop-again c = search among-more
 
+counted-requires : tie.Need-counted-requires Inv-loop μ-loop Inv-ids μ-ids
+counted-requires c κs = search (needs, going-few)
+
 next-key-requires : tie.Need-next-key-requires Inv-loop μ-loop Inv-ids μ-ids
 next-key-requires c κs = search needs
 
@@ -77,24 +75,17 @@ ids-less c = let s = c .before .before .before .before .before .before .before .
 ids-again : tie.Need-ids-again Inv-loop μ-loop Inv-ids μ-ids
 ids-again c = let s = c .before .before .before .before .before .before .before .before .before .before .before .before .before in search (going-more, s .pre .0)
 
-returns : tie.Need-returns Inv-loop μ-loop Inv-ids μ-ids
-returns c =
-    let g = c .before .before .before in
-    let s = g .before .before .before .before .before in
-    let table = s .args .table .now in
-    let doc = s .args .doc .now in
-    let used = s .args .used in
-    let l = s .pre .0 .1 in
-    ⊎-elim
-    (λ w. let (o, e, f, r) = w in marks-same (going-end table doc used (s .args .from) (g .ids .inv) l (o .left)) e f r)
-    (λ w.
-    let (o, first, id, loop, here, o2, arg, known, number, note, field, known2, o3, e, f, r) = w in
-    marks-same (going-twice table doc used (loop .inv) l (here .ensures) (o2 .taken) (id .ensures) (number .ensures) (note .ensures) (note .kept .0)
-    (s .args .from) (g .ids .inv) (first .ensures) (o3 .taken)) e f r)
-    (c .before .if1 .came)
-
 same-length : tie.Need-same-length Inv-loop μ-loop Inv-ids μ-ids
-same-length c = let s = c .before .before .before .before .before .before .before .before in returns c .long ∙ sym (s .pre .1 .1 .0)
+same-length c = search needs
+
+returns : tie.Need-returns Inv-loop μ-loop Inv-ids μ-ids
+returns c = search going-end
+
+same-length-2 : tie.Need-same-length-2 Inv-loop μ-loop Inv-ids μ-ids
+same-length-2 c = search needs
+
+returns-2 : tie.Need-returns-2 Inv-loop μ-loop Inv-ids μ-ids
+returns-2 c = search going-twice
 
 pub mark-ids-spec : {M : Type 1} → statement M
 mark-ids-spec =
@@ -106,7 +97,6 @@ mark-ids-spec =
     μ-ids
     none-requires
     ids-holds
-    first-of-requires
     is-id-requires
     loop-holds
     is-value-at-requires
@@ -118,8 +108,11 @@ mark-ids-spec =
     add-i
     loop-less
     loop-again
+    counted-requires
     next-key-requires
     ids-less
     ids-again
     same-length
-    returns)
+    returns
+    same-length-2
+    returns-2)

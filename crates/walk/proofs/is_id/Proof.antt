@@ -1,18 +1,17 @@
 -- `walk::is_id` meets its contract. Assumes nothing.
 use borrow.Author.Needs.{needs}
-use Rattle.table.specs.Block.{table-has}
-use Rattle.walk.specs.Kinds.{id-none, id-some}
+use Rattle.walk.specs.Kinds.{is-below, id-none, id-some}
 use Rattle.walk.proofs.is_id.Statement.{statement}
 use Rattle.walk.proofs.is_id.Tie as tie
 
-shared-slice-read-if1 : tie.Need-shared-slice-read-if1
-shared-slice-read-if1 c = search (needs, table-has)
+is-declared-requires : tie.Need-is-declared-requires
+is-declared-requires c κs = search needs
 
 returns : tie.Need-returns
 returns c = search id-none
 
 cell-requires : tie.Need-cell-requires
-cell-requires c κs = search needs
+cell-requires c κs = search (needs, is-below)
 
 is-in-requires : tie.Need-is-in-requires
 is-in-requires c κs = search needs
@@ -22,4 +21,4 @@ returns-2 c = search id-some
 
 pub is-id-spec : {M : Type 1} → statement M
 is-id-spec =
-    tie.close (tie.spec shared-slice-read-if1 returns cell-requires is-in-requires returns-2)
+    tie.close (tie.spec is-declared-requires returns cell-requires is-in-requires returns-2)
