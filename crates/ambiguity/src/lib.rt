@@ -5,8 +5,8 @@
 use sets::has;
 use sets::is_within;
 use sets::one;
-use sets::one_each;
 use sets::when;
+use walks::one_each;
 ghost use mathlib.Core.Path.{_≡_};
 ghost use mathlib.Core.Bool.{true};
 ghost use lib.ListN.{length, take};

@@ -4,9 +4,9 @@
 // An operator stands before its parts, so an expression is read by recursion: n symbols are read at most n + 1 calls deep. A
 // set is a word, bit k for occurrence k. Assumes nothing.
 use paper::MOST_NAMES;
-use sets::connect;
 use sets::one;
 use sets::when;
+use walks::connect;
 ghost use mathlib.Core.Path.{_≡_};
 ghost use mathlib.Core.Bool.{false};
 ghost use Prim.Native.Nat.{_+_, _≤_, _<_, _^_};

@@ -5,10 +5,5 @@ pub mod Union
 pub mod Lowest
 -- `within`, `apart` and `single` as code computes them
 pub mod Tests
--- What `connect` leaves
-pub mod Joined
--- The names of a set's members, and whether they differ: `one_each`
+-- The names of a set's members
 pub mod Chosen
-pub mod Seen
--- What `next_named` answers
-pub mod Named

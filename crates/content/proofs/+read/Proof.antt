@@ -15,7 +15,7 @@ use Rattle.content.proofs.in_sequence.Reads as in-sequence-reads
 use Rattle.content.proofs.nothing.Reads as nothing-reads
 use Rattle.content.proofs.one_name.Reads as one-name-reads
 use Rattle.content.proofs.with_none.Reads as with-none-reads
-use Rattle.sets.proofs.connect.Reads as connect-reads
+use Rattle.walks.proofs.connect.Reads as connect-reads
 use Rattle.content.proofs.+read.{statement}
 use Rattle.content.proofs.+read.Tie.{close}
 

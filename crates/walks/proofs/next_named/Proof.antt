@@ -1,8 +1,8 @@
 use native.Mathlib.Omega.{arith}
 use Rattle.sets.specs.Lowest.{Turn, turn}
-use Rattle.sets.specs.Named.{nextNamed, Seeking, none-sought, all-sought, found-named, others-sought}
-use Rattle.sets.proofs.next_named.Statement.{statement}
-use Rattle.sets.proofs.next_named.Tie as tie
+use Rattle.walks.specs.Named.{nextNamed, Seeking, none-sought, all-sought, found-named, others-sought}
+use Rattle.walks.proofs.next_named.Statement.{statement}
+use Rattle.walks.proofs.next_named.Tie as tie
 
 abbrev Inv-loop : tie.InvT-loop
 Inv-loop set names name rest₀ rest = Seeking names name (nextNamed set names name) rest

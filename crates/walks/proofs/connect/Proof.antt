@@ -1,9 +1,9 @@
 use native.Mathlib.Omega.{arith}
 use borrow.Author.Needs.{needs}
 use Rattle.sets.specs.Lowest.{Turn, turn}
-use Rattle.sets.specs.Joined.{joined, Joining, none-joined, one-joined, all-joined}
-use Rattle.sets.proofs.connect.Statement.{statement}
-use Rattle.sets.proofs.connect.Tie as tie
+use Rattle.walks.specs.Joined.{joined, Joining, none-joined, one-joined, all-joined}
+use Rattle.walks.proofs.connect.Statement.{statement}
+use Rattle.walks.proofs.connect.Tie as tie
 
 abbrev Inv-loop : tie.InvT-loop
 Inv-loop follow₀ from to rest₀ follow rest = Joining (joined from to follow₀) to follow rest

@@ -4,10 +4,10 @@ use lib.ListN.{getD}
 use lib.Count.{trailingZeros}
 use Rattle.paper.specs.Basics.{distinct}
 use Rattle.paper.specs.Table.{chosen}
 use Rattle.sets.specs.Lowest.{Turn, turn}
-use Rattle.sets.specs.Seen.{Seeing, none-seen, all-seen, name-low, seen-twice, seen-once}
-use Rattle.sets.proofs.one_each.Statement.{statement}
-use Rattle.sets.proofs.one_each.Tie as tie
+use Rattle.walks.specs.Seen.{Seeing, none-seen, all-seen, name-low, seen-twice, seen-once}
+use Rattle.walks.proofs.one_each.Statement.{statement}
+use Rattle.walks.proofs.one_each.Tie as tie
 
 abbrev Inv-loop : tie.InvT-loop
 Inv-loop set names rest₀ seen₀ rest seen = Seeing names (distinct (chosen set names)) rest seen

@@ -16,9 +16,9 @@ use Rattle.paper.specs.Table.{chosen}
 use Rattle.basic_laws.specs.Bools.{clash, both, fails}
 use Rattle.paper_laws.specs.Words.{bit-low, bit-half, bit-below}
 use Rattle.paper_laws.specs.Chosen.{distinct-iff}
 use Rattle.sets.specs.Lowest.{cleared, trailing-even, trailing-odd, cleared-even, cleared-odd, lowest-ind, turn}
-use Rattle.sets.specs.declared.Next.{Next}
-use Rattle.sets.specs.declared.Next.the-variants.{At, Nowhere}
+use Rattle.walks.specs.declared.Next.{Next}
+use Rattle.walks.specs.declared.Next.the-variants.{At, Nowhere}
 
 -- the lowest member of the set that has the name
 abbrev later : Next → Next
