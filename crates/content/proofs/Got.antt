@@ -18,12 +18,13 @@ use Rattle.paper.specs.Schema.{symbolsOf}
 use Rattle.basic_laws.specs.Lists.{drop-next}
 use Rattle.basic_laws.specs.Bools.{clash}
 use Rattle.walks.specs.Joined.{joined}
-use Rattle.content.specs.declared.Part.{Part}
+use Rattle.model_parts.specs.declared.Part.{Part}
 use Rattle.content_laws.specs.Names.{count-some}
 use Rattle.content_laws.specs.Symbols.{symbols-some}
 use Rattle.content.specs.Front.{same-rest, same-expr, part-of, parts-of}
 use Rattle.content.specs.Linked.{linked, linked-name, linked-opt, linked-alt, linked-seq, linked-round}
-use Rattle.content.specs.Parts.{Found, Nothing, Got, single, sequence, choice, also}
+use Rattle.model_parts.specs.Parts.{single, sequence, choice, also}
+use Rattle.content.specs.Parts.{Found, Nothing, Got}
 
 lost : {s : List ℕ} {at p : ℕ} {f g : List ℕ} {r : Part} → r .ok ≡ false → Nothing (drop at s) p → Got s at p f g r
 lost o h = record { found = λ e. clash e o; lost = λ e. h }

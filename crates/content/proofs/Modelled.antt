@@ -13,7 +13,7 @@ use Rattle.paper.specs.Expressions.{Expr, count}
 use Rattle.paper.specs.Schema.{symbolsOf}
 use Rattle.basic_laws.specs.Bools.{clash}
 use Rattle.content_laws.specs.Symbols.{exprOf-iff}
-use Rattle.content.specs.declared.Part.{Part}
+use Rattle.model_parts.specs.declared.Part.{Part}
 use Rattle.content.specs.declared.Model.{Model}
 use Rattle.content.specs.Front.{same-rest}
 use Rattle.content.specs.Linked.{linked}

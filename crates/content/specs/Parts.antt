@@ -1,15 +1,14 @@
--- What the reader gives for an expression at a place of the symbols, and how the parts of an operator make the whole. Assumes nothing.
+-- What the reader gives for an expression at a place of the symbols. Assumes nothing.
 use mathlib.Core.Path.{_≡_}
-use mathlib.Core.Bool.{Bool, true, false, _&&_, _||_}
+use mathlib.Core.Bool.{true, false}
 use mathlib.Core.List.{List, _++_}
-use Prim.Native.Nat.{ℕ, _+_, _^_, _≤_}
+use Prim.Native.Nat.{ℕ, _+_, _≤_}
 use lib.ListN.{length, drop}
-use lib.Bits.{bitOr}
 use Rattle.paper.specs.Basics.{mostNames}
 use Rattle.paper.specs.Expressions.{Expr, count}
-use Rattle.paper.specs.Sets.{nullable, when, firstWord, lastWord}
+use Rattle.paper.specs.Sets.{nullable, firstWord, lastWord}
 use Rattle.paper.specs.Schema.{symbolsOf}
-use Rattle.content.specs.declared.Part.{Part}
+use Rattle.model_parts.specs.declared.Part.{Part}
 use Rattle.content.specs.Linked.{linked}
 
 -- An expression stands at a place of s, and its occurrences are numbered from p on: f are the words before, and g after.
@@ -31,35 +30,3 @@ Nothing l p = (e : Expr) (t : List ℕ) → l ≡ symbolsOf e ++ t → p + count
 pub record Got (s : List ℕ) (at p : ℕ) (f g : List ℕ) (r : Part) : Type 0 where
   pub found : r .ok ≡ true → Found s at p f g r
   pub lost : r .ok ≡ false → Nothing (drop at s) p
-
--- ---- the whole from its parts
-
--- a name, occurrence p
-abbrev pub single : ℕ → ℕ → Part
-single at p = record { ok = true; next = at + 1; places = p + 1; nullable = false; first = 2 ^ p; last = 2 ^ p }
-
--- one part after the other
-abbrev pub sequence : Part → Part → Part
-sequence a b = record {
-  ok = true;
-  next = b .next;
-  places = b .places;
-  nullable = a .nullable && b .nullable;
-  first = bitOr (a .first) (when (a .nullable) (b .first));
-  last = bitOr (b .last) (when (b .nullable) (a .last));
-}
-
--- either part
-abbrev pub choice : Part → Part → Part
-choice a b = record {
-  ok = true;
-  next = b .next;
-  places = b .places;
-  nullable = a .nullable || b .nullable;
-  first = bitOr (a .first) (b .first);
-  last = bitOr (a .last) (b .last);
-}
-
--- the part, where no child at all may match too if the test holds
-abbrev pub also : Bool → Part → Part
-also none a = record { ok = true; next = a .next; places = a .places; nullable = none || a .nullable; first = a .first; last = a .last }

@@ -1,21 +1,20 @@
-// Content models, read from their symbols: the sets of first and last occurrences and the follow sets, and the names of the
-// occurrences.
+// Content models, read from their symbols: the sets of first and last occurrences and the follow sets.
 //
 // An operator stands before its parts, so an expression is read by recursion: n symbols are read at most n + 1 calls deep. A
 // set is a word, bit k for occurrence k. Assumes nothing.
+use model_parts::Part;
+use model_parts::either;
+use model_parts::in_sequence;
+use model_parts::nothing;
+use model_parts::one_name;
+use model_parts::with_none;
 use paper::MOST_NAMES;
-use sets::one;
-use sets::when;
 use walks::connect;
 ghost use mathlib.Core.Path.{_≡_};
-ghost use mathlib.Core.Bool.{false};
-ghost use Prim.Native.Nat.{_+_, _≤_, _<_, _^_};
-ghost use lib.Seq.{sets};
 ghost use lib.ListN.{length, replicate};
 ghost use Rattle.paper.specs.Basics.{mostNames};
-ghost use Rattle.content.specs.Parts.{Got, single, sequence, choice, also};
+ghost use Rattle.content.specs.Parts.{Got};
 ghost use Rattle.content.specs.Model.{Modelled, noModel};
-ghost use Rattle.content.specs.Listed.{namesIn};
 
 // The symbols that are told apart, as bytes.
 const CHOICE: u8 = paper::CHOICE as u8;
@@ -25,89 +24,6 @@ const OPTIONAL: u8 = paper::OPTIONAL as u8;
 const ZERO_OR_MORE: u8 = paper::ZERO_OR_MORE as u8;
 
 const NAMED: u8 = paper::NAMED as u8;
-
-// An expression that was read, if `ok`: the place after it, the number of the next occurrence, whether no child at all matches,
-// and the sets of its first and last occurrences.
-struct Part {
-    ok: bool,
-    next: usize,
-    places: usize,
-    nullable: bool,
-    first: u64,
-    last: u64,
-}
-
-// There is no expression, or no room for its names.
-fn nothing() -> Part
-    ensures { λ r. ⌜ r .ok ≡ false ⌝ }
-{
-    Part {
-        ok: false,
-        next: 0,
-        places: 0,
-        nullable: false,
-        first: 0,
-        last: 0,
-    }
-}
-
-// A name, occurrence p.
-fn one_name(at: usize, p: usize) -> Part
-    requires { ⌜ (p < mostNames) × (at + 1 < 2 ^ 64) ⌝ }
-    ensures { λ r. ⌜ r ≡ single at p ⌝ }
-{
-    let alone = one(p as u32);
-    Part {
-        ok: true,
-        next: at + 1,
-        places: p + 1,
-        nullable: false,
-        first: alone,
-        last: alone,
-    }
-}
-
-// One part after the other.
-fn in_sequence(a: Part, b: Part) -> Part
-    ensures { λ r. ⌜ r ≡ sequence a b ⌝ }
-{
-    Part {
-        ok: true,
-        next: b.next,
-        places: b.places,
-        nullable: a.nullable & b.nullable,
-        first: a.first | when(a.nullable, b.first),
-        last: b.last | when(b.nullable, a.last),
-    }
-}
-
-// Either part.
-fn either(a: Part, b: Part) -> Part
-    ensures { λ r. ⌜ r ≡ choice a b ⌝ }
-{
-    Part {
-        ok: true,
-        next: b.next,
-        places: b.places,
-        nullable: a.nullable | b.nullable,
-        first: a.first | b.first,
-        last: a.last | b.last,
-    }
-}
-
-// The part; no child at all matches too if `none` says so.
-fn with_none(none: bool, a: Part) -> Part
-    ensures { λ r. ⌜ r ≡ also none a ⌝ }
-{
-    Part {
-        ok: true,
-        next: a.next,
-        places: a.places,
-        nullable: none | a.nullable,
-        first: a.first,
-        last: a.last,
-    }
-}
 
 // The expression at a place of the symbols, with its occurrences numbered from p on. Its follow sets go into the words of
 // `follow`, word k for occurrence k. Both calls have fewer symbols left.
@@ -195,29 +111,5 @@ pub fn read_model(s: &[u8], follow: &mut [u64]) -> Model
         nullable: whole.nullable,
         first: whole.first,
         last: whole.last,
-    }
-}
-
-fn wide(x: u8) -> u64
-    ensures { λ r. ⌜ r ≡ x ⌝ }
-{
-    x as u64
-}
-
-// The names among the symbols, in their order, go into the first words of `names`: of a model's symbols, word k is the name of
-// occurrence k.
-pub fn list_names(s: &[u8], names: &mut [u64])
-    requires { ⌜ length (namesIn (now s)) ≤ length (now names) ⌝ }
-    ensures { λ _. ⌜ now (names .exit) ≡ sets (now (names .entry)) 0 (namesIn (now (s .entry))) ⌝ }
-{
-    let mut n: usize = 0;
-    let mut i: usize = 0;
-    while i < s.len() {
-        let symbol = s[i];
-        if symbol >= NAMED {
-            names[n] = wide(symbol - NAMED);
-            n += 1;
-        }
-        i += 1;
     }
 }

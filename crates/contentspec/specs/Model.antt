@@ -19,7 +19,7 @@ use Rattle.paper.specs.Table.{blockLength, countAt, noChildAt, firstAt, lastAt,
 use Rattle.content.specs.declared.Model.{Model}
 use Rattle.paper_laws.specs.Basics.{length-pad}
 use Rattle.content.specs.Model.{followWords, ModelOf, NoModel, Modelled, length-words}
-use Rattle.content.specs.Listed.{namesIn}
+use Rattle.model_names.specs.Listed.{namesIn}
 use Rattle.ambiguity.specs.Unambiguous.{isUnambiguous, Bounded}
 use Rattle.contentspec.specs.Together.{names-fit, names-are, model-bounded, model-unambiguous}
 

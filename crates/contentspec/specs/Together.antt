@@ -17,7 +17,7 @@ use Rattle.sets.specs.Chosen.{small}
 use Rattle.content.specs.declared.Model.{Model}
 use Rattle.paper_laws.specs.Basics.{length-pad}
 use Rattle.content.specs.Model.{ModelOf, followWords, length-words}
-use Rattle.content.specs.Listed.{namesIn, names-listed, count-listed, listed-pad, listed-below}
+use Rattle.model_names.specs.Listed.{namesIn, names-listed, count-listed, listed-pad, listed-below}
 use Rattle.ambiguity.specs.Unambiguous.{isUnambiguous, Bounded, unambiguous-iff}
 
 -- ---- of an expression's own words and names, in 64 places

@@ -2,8 +2,8 @@
 // taken if it is one expression of at most 64 names and is unambiguous. Assumes nothing.
 use ambiguity::unambiguous;
 use content::Model;
-use content::list_names;
 use content::read_model;
+use model_names::list_names;
 use paper::AMBIGUOUS;
 use paper::BLOCK_WORDS;
 use paper::COUNT_AT;

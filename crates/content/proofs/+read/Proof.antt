@@ -10,11 +10,11 @@ use borrow.Fn.PlainCycle.{Measures, is, falls, and}
 use Rattle.content.proofs.read.Reads as read
 use Rattle.content.proofs.read.Kinds as read-kinds
 use Rattle.content.proofs.+read.Lts-read as read-lts
-use Rattle.content.proofs.either.Reads as either-reads
-use Rattle.content.proofs.in_sequence.Reads as in-sequence-reads
-use Rattle.content.proofs.nothing.Reads as nothing-reads
-use Rattle.content.proofs.one_name.Reads as one-name-reads
-use Rattle.content.proofs.with_none.Reads as with-none-reads
+use Rattle.model_parts.proofs.either.Reads as either-reads
+use Rattle.model_parts.proofs.in_sequence.Reads as in-sequence-reads
+use Rattle.model_parts.proofs.nothing.Reads as nothing-reads
+use Rattle.model_parts.proofs.one_name.Reads as one-name-reads
+use Rattle.model_parts.proofs.with_none.Reads as with-none-reads
 use Rattle.walks.proofs.connect.Reads as connect-reads
 use Rattle.content.proofs.+read.{statement}
 use Rattle.content.proofs.+read.Tie.{close}

@@ -1,7 +1,7 @@
 -- `in_sequence` meets its contract. Assumes nothing.
 use borrow.Author.Needs.{needs}
-use Rattle.content.proofs.in_sequence.Statement.{statement}
-use Rattle.content.proofs.in_sequence.Tie as tie
+use Rattle.model_parts.proofs.in_sequence.Statement.{statement}
+use Rattle.model_parts.proofs.in_sequence.Tie as tie
 
 when-requires : tie.Need-when-requires
 when-requires c κs = search needs

@@ -1,7 +1,7 @@
 -- `one_name` meets its contract. Assumes nothing.
 use borrow.Author.Needs.{needs}
-use Rattle.content.proofs.one_name.Statement.{statement}
-use Rattle.content.proofs.one_name.Tie as tie
+use Rattle.model_parts.proofs.one_name.Statement.{statement}
+use Rattle.model_parts.proofs.one_name.Tie as tie
 
 cast-one : tie.Need-cast-one
 cast-one c = search needs

@@ -5,9 +5,9 @@ use Prim.Native.Nat.{_-_, _<_}
 use native.Mathlib.Omega.{arith}
 use borrow.Author.Needs.{needs}
 use lib.ListN.{length}
-use Rattle.content.specs.Listed.{Listing, none-listed, name-room, name-listed, not-listed, all-listed}
-use Rattle.content.proofs.list_names.Statement.{statement}
-use Rattle.content.proofs.list_names.Tie as tie
+use Rattle.model_names.specs.Listed.{Listing, none-listed, name-room, name-listed, not-listed, all-listed}
+use Rattle.model_names.proofs.list_names.Statement.{statement}
+use Rattle.model_names.proofs.list_names.Tie as tie
 
 abbrev Inv-loop : tie.InvT-loop
 Inv-loop s names₀ n₀ i₀ names n i = Listing s names₀ names n i
