@@ -1,9 +1,7 @@
--- The scan of one element: its table and its steps.
-pub mod Scan
--- What a token makes of a phase, and of what is left
-pub mod PhaseTurns
+-- The test of shape.
+-- What is left of the tokens
 pub mod Left
 -- The turns of the scan
 pub mod ScanTurns
--- What the calls and the steps answer
+-- What the calls answer
 pub mod Answers

@@ -15,10 +15,10 @@ use Rattle.paper.specs.Shape.{Phase, Head, Fail, phaseOf, isElement}
 use Rattle.shape_laws.specs.Ends.{rest-next, rest-none}
 use Rattle.tokens.specs.Sorts.{token}
 use Rattle.tokens.specs.Theorems.{start-iff}
-use Rattle.shape.specs.declared.Scan.{Scan}
-use Rattle.shape.specs.Scan.{follow, numbers, rise, isAttribute, isValue, holds, stands, passed}
+use Rattle.scan.specs.declared.Scan.{Scan}
+use Rattle.scan.specs.Scan.{follow, numbers, rise, isAttribute, isValue, holds, stands, passed}
 use Rattle.shape_laws.specs.Phases.{bad-fails}
-use Rattle.shape.specs.PhaseTurns.{nextOf, leastOf, Told, turn, reads, no-token, level-tok, leads, stays-small}
+use Rattle.scan.specs.PhaseTurns.{nextOf, leastOf, Told, turn, reads, no-token, level-tok, leads, stays-small}
 use Rattle.shape.specs.Left.{rest, rest-turn, rest-deep, rest-fails, rest-end, element, element-rest, no-element}
 
 -- ---- a turn that stands, and one that does not

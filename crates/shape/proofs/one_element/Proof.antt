@@ -1,4 +1,4 @@
-use Rattle.shape.specs.Scan.{rules}
+use Rattle.scan.specs.Scan.{rules}
 use Rattle.shape.specs.ScanTurns.{Scanning, scan-none, scan-no-start, scan-begin, scan-stop, scan-turn, scan-end, stands-open, stands-shallow}
 use borrow.Author.Needs.{needs}
 use mathlib.Core.Path.{refl}

@@ -1,6 +1,6 @@
 use borrow.Author.Needs.{needs}
-use Rattle.shape.proofs.rule.Statement.{statement}
-use Rattle.shape.proofs.rule.Tie as tie
+use Rattle.scan.proofs.rule.Statement.{statement}
+use Rattle.scan.proofs.rule.Tie as tie
 
 cast-sort : tie.Need-cast-sort
 cast-sort c = search needs

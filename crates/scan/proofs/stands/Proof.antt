@@ -1,9 +1,9 @@
 use Prim.Native.Nat.{_%_}
-use Rattle.shape.specs.Answers.{stands-closed, stands-deep, stands-number, stands-sort, stands-order, attribute-le, times-le}
+use Rattle.scan.specs.Steps.{stands-closed, stands-deep, stands-number, stands-sort, stands-order, attribute-le, times-le}
 use native.Mathlib.Omega.{arith}
 use borrow.Author.Needs.{needs}
-use Rattle.shape.proofs.stands.Statement.{statement}
-use Rattle.shape.proofs.stands.Tie as tie
+use Rattle.scan.proofs.stands.Statement.{statement}
+use Rattle.scan.proofs.stands.Tie as tie
 
 returns : tie.Need-returns
 returns c = search stands-closed

@@ -5,7 +5,7 @@ use Prim.Native.Nat.{ℕ, _+_, _-_, _*_, _/_, _%_, _^_}
 use lib.Dec.{leb, ltb, eqb}
 use lib.ListN.{getD}
 use Rattle.paper.specs.Basics.{mostDeep, mostNumber}
-use Rattle.shape.specs.declared.Scan.{Scan}
+use Rattle.scan.specs.declared.Scan.{Scan}
 
 -- ---- the table
 

@@ -1,9 +1,9 @@
-use Rattle.shape.specs.Answers.{passed-made, attribute-le, value-le, rise-le, times-le}
+use Rattle.scan.specs.Steps.{passed-made, attribute-le, value-le, rise-le, times-le}
 use Prim.Native.Nat.{_+_, _%_, _/_}
 use native.Mathlib.Omega.{arith}
 use borrow.Author.Needs.{needs}
-use Rattle.shape.proofs.passed.Statement.{statement}
-use Rattle.shape.proofs.passed.Tie as tie
+use Rattle.scan.proofs.passed.Statement.{statement}
+use Rattle.scan.proofs.passed.Tie as tie
 
 rule-requires : tie.Need-rule-requires
 rule-requires c κs = search needs

@@ -12,7 +12,7 @@ use Rattle.paper.specs.Basics.{mostNumber}
 use Rattle.paper.specs.Tokens.{levelOf}
 use Rattle.paper.specs.Shape.{Phase, Head, Named, Valued, Body, Fail, phaseOf}
 use Rattle.tokens.specs.Sorts.{token, by-sort}
-use Rattle.shape.specs.Scan.{rules, follow, numbers, rise, isAttribute, isValue, holds}
+use Rattle.scan.specs.Scan.{rules, follow, numbers, rise, isAttribute, isValue, holds}
 
 -- ---- a phase, as the scan keeps it
 
