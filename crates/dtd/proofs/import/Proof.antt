@@ -1,29 +1,30 @@
 -- `dtd::import` meets its contract. Assumes nothing.
+use mathlib.Core.Path.{refl, sym}
 use Rattle.dtd.specs.Outcomes.{not-imported, held, imported}
 use borrow.Author.Needs.{needs}
 use Rattle.dtd.proofs.import.Statement.{statement}
 use Rattle.dtd.proofs.import.Tie as tie
 
 slice-aggregate-declared-at : tie.Need-slice-aggregate-declared-at
-slice-aggregate-declared-at c = search needs
+slice-aggregate-declared-at c = refl
 
 slice-aggregate-declared-at-2 : tie.Need-slice-aggregate-declared-at-2
-slice-aggregate-declared-at-2 c = search needs
+slice-aggregate-declared-at-2 c = refl
 
 slice-aggregate-declared-at-3 : tie.Need-slice-aggregate-declared-at-3
-slice-aggregate-declared-at-3 c = search needs
+slice-aggregate-declared-at-3 c = refl
 
 slice-aggregate-declared-at-4 : tie.Need-slice-aggregate-declared-at-4
-slice-aggregate-declared-at-4 c = search needs
+slice-aggregate-declared-at-4 c = refl
 
 slice-aggregate-declared-at-5 : tie.Need-slice-aggregate-declared-at-5
-slice-aggregate-declared-at-5 c = search needs
+slice-aggregate-declared-at-5 c = refl
 
 slice-aggregate-declared-at-6 : tie.Need-slice-aggregate-declared-at-6
-slice-aggregate-declared-at-6 c = search needs
+slice-aggregate-declared-at-6 c = refl
 
 declared-at-requires : tie.Need-declared-at-requires
-declared-at-requires c κs = search needs
+declared-at-requires c κs = record { elements-long = refl; contents-long = refl; ends-long = refl; attributes-long = refl; heads-long = refl; rows-long = refl }
 
 refusal-requires : tie.Need-refusal-requires
 refusal-requires c κs = search needs
@@ -35,22 +36,22 @@ returns c =
     not-imported (a .text .now) (d .last .1 .0) (d .last .1 .1 .0) (d .last .1 .1 .1 .0) (d .last .1 .1 .1 .1 .0) (d .last .1 .1 .1 .1 .1 .0) (d .last .1 .1 .1 .1 .1 .1 .0) (d .result) (d .ensures) (a .file .now) (c .refusal .result) (c .before .if1 .taken) (c .refusal .ensures)
 
 slice-aggregate-put-schema : tie.Need-slice-aggregate-put-schema
-slice-aggregate-put-schema c = search needs
+slice-aggregate-put-schema c = sym (c .before .before .before .before .before .before .before .before .before .declared-at .kept .1 .0)
 
 slice-aggregate-put-schema-2 : tie.Need-slice-aggregate-put-schema-2
-slice-aggregate-put-schema-2 c = search needs
+slice-aggregate-put-schema-2 c = sym (c .before .before .before .before .before .before .before .before .before .before .declared-at .kept .1 .1 .0)
 
 slice-aggregate-put-schema-3 : tie.Need-slice-aggregate-put-schema-3
-slice-aggregate-put-schema-3 c = search needs
+slice-aggregate-put-schema-3 c = sym (c .before .before .before .before .before .before .before .before .before .before .before .declared-at .kept .1 .1 .1 .0)
 
 slice-aggregate-put-schema-4 : tie.Need-slice-aggregate-put-schema-4
-slice-aggregate-put-schema-4 c = search needs
+slice-aggregate-put-schema-4 c = sym (c .before .before .before .before .before .before .before .before .before .before .before .before .declared-at .kept .1 .1 .1 .1 .0)
 
 slice-aggregate-put-schema-5 : tie.Need-slice-aggregate-put-schema-5
-slice-aggregate-put-schema-5 c = search needs
+slice-aggregate-put-schema-5 c = sym (c .before .before .before .before .before .before .before .before .before .before .before .before .before .declared-at .kept .1 .1 .1 .1 .1 .0)
 
 slice-aggregate-put-schema-6 : tie.Need-slice-aggregate-put-schema-6
-slice-aggregate-put-schema-6 c = search needs
+slice-aggregate-put-schema-6 c = sym (c .before .before .before .before .before .before .before .before .before .before .before .before .before .before .declared-at .kept .1 .1 .1 .1 .1 .1 .0)
 
 put-schema-requires : tie.Need-put-schema-requires
 put-schema-requires c κs =
@@ -59,7 +60,7 @@ put-schema-requires c κs =
     held (a .text .now) (d .last .1 .0) (d .last .1 .1 .0) (d .last .1 .1 .1 .0) (d .last .1 .1 .1 .1 .0) (d .last .1 .1 .1 .1 .1 .0) (d .last .1 .1 .1 .1 .1 .1 .0) (d .result) (d .ensures) (record { elements-long = d .kept .1 .0; contents-long = d .kept .1 .1 .0; ends-long = d .kept .1 .1 .1 .0; attributes-long = d .kept .1 .1 .1 .1 .0; heads-long = d .kept .1 .1 .1 .1 .1 .0; rows-long = d .kept .1 .1 .1 .1 .1 .1 .0 }) (c .before .before .before .before .before .before .before .if1 .left)
 
 same-length : tie.Need-same-length
-same-length c = search needs
+same-length c = c .before .before .put-schema .kept .1 .1 .1 .1 .1 .1 .1 .1 .1 .1 .0
 
 returns-2 : tie.Need-returns-2
 returns-2 c =

@@ -17,13 +17,13 @@ keep-row-requires : tie.Need-keep-row-requires
 keep-row-requires c κs = let heads = c .before .before .before .before .before .before .before .before .before .before .before .before .before .before .before .before .pre .3 in (heads .long, heads .wide)
 
 same-length : tie.Need-same-length
-same-length c = search needs
+same-length c = c .before .before .before .before .before .before .before .before .before .before .definitions-at .kept .1 .1 .1 .0
 
 same-length-2 : tie.Need-same-length-2
-same-length-2 c = search needs
+same-length-2 c = c .before .before .before .before .keep-row .kept .0
 
 same-length-3 : tie.Need-same-length-3
-same-length-3 c = search needs
+same-length-3 c = c .before .before .before .before .keep-row .kept .1 .1 .0
 
 returns : tie.Need-returns
 returns c =
