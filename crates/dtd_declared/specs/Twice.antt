@@ -21,7 +21,7 @@ use Rattle.dtd_words.specs.Places.{At}
 use Rattle.dtd_words.specs.Words.{Came}
 use Rattle.dtd_names.specs.Named.{namesAt}
 use Rattle.dtd_texts.specs.declared.Reading.{Reading}
-use Rattle.dtd_texts.specs.Turns.{Told, Holding}
+use Rattle.dtd_texts.specs.Turns.{Told, Holding, refusedAt}
 
 -- what a reading came to, without the lists
 pub came : (known : Name → Bool) (text : List ℕ) (r : Reading) (es cs qs ns hs ws : List ℕ) → Told known text r es cs qs ns hs ws (reading known text)
@@ -64,11 +64,11 @@ module _ (text es cs qs ns hs ws : List ℕ) (f : Reading) (x : Told any text f 
     pub fit : length es ≡ mostElements → f .elements ≤ length es
     fit e = let k = read-first .holding .few in omega arith
 
-    pub none : f .elements ≡ 0 → Told any text (record { number = 14; at = f .at; elements = 0; attributes = 0; many = 0 }) es cs qs ns hs ws (declared text)
-    none z =
+    pub none : f .elements ≡ 0 → (q : Reading) → q ≡ refusedAt 14 (f .at) → Told any text q es cs qs ns hs ws (declared text)
+    none z q p =
         let r = read-first in
         let i : elementNames (r .ds) ≡ [] = sym (r .holding .names) ∙ ap (λ k. namesAt text (take k es)) z in
-        rw (first (ok (r .ds) (r .rest)) (r .read), i) (refl, r .at)
+        rw (p, first (ok (r .ds) (r .rest)) (r .read), i) (refl, r .at)
 
     -- g: what the second reading came to
     module _ (m : f .elements ≢ 0) (h : f .elements ≤ length es) (g : Step)
@@ -83,10 +83,10 @@ module _ (text es cs qs ns hs ws : List ℕ) (f : Reading) (x : Told any text f 
       second : (r : Read-first) → declared text ≡ reading (λ n. among n (namesAt text (take (f .elements) es))) text
       second r = first (ok (r .ds) (r .rest)) (r .read) ∙ rw (some r, ← r .holding .names)
 
-      pub undeclared : g .number ≢ 0 → Told any text (record { number = g .number; at = g .at; elements = 0; attributes = 0; many = 0 }) es cs qs ns hs ws (declared text)
-      undeclared o = rw (second read-first) (by (reading (λ n. among n (namesAt text (take (f .elements) es))) text) y)
+      pub undeclared : g .number ≢ 0 → (r : Reading) → r ≡ refusedAt (g .number) (g .at) → Told any text r es cs qs ns hs ws (declared text)
+      undeclared o r p = rw (p, second read-first) (by (reading (λ n. among n (namesAt text (take (f .elements) es))) text) y)
         where
-          by : (q : Read (List Declaration)) → Came text g q → Told any text (record { number = g .number; at = g .at; elements = 0; attributes = 0; many = 0 }) es cs qs ns hs ws q
+          by : (q : Read (List Declaration)) → Came text g q → Told any text (refusedAt (g .number) (g .at)) es cs qs ns hs ws q
           by (stop k s) z = z
           by (ok ds s) (z, w) = absurd (o z)
 

@@ -1,6 +1,7 @@
 // Item 4, "DTD files as they come": a text that is taken, or where it is refused. Assumes nothing.
 use dtd_texts::Reading;
 use dtd_texts::read_text;
+use dtd_texts::refused_at;
 use dtd_words::Step;
 use paper::DTD_TEXT;
 use paper::MOST_ATTRIBUTES;
@@ -75,23 +76,11 @@ pub fn declared_at(
         return first;
     }
     if first.elements == 0 {
-        return Reading {
-            number: DTD_TEXT,
-            at: first.at,
-            elements: 0,
-            attributes: 0,
-            many: 0,
-        };
+        return refused_at(DTD_TEXT, first.at);
     }
     let again = strictly(text, elements, first.elements);
     if again.number != 0 {
-        return Reading {
-            number: again.number,
-            at: again.at,
-            elements: 0,
-            attributes: 0,
-            many: 0,
-        };
+        return refused_at(again.number, again.at);
     }
     first
 }

@@ -1,5 +1,3 @@
 -- Declarations of a text, one after another: turns of the loop.
 pub mod Whole
-pub mod Standing
-pub mod Ways
 pub mod Turns

@@ -25,10 +25,10 @@ use Rattle.dtd_elements.specs.Steps.{Gave, Went, went}
 use Rattle.dtd_elements.specs.Stored.{Stored, stored-append}
 use Rattle.dtd_before.specs.Paths.{Path, here, one-turn-more, turn-less, declaredTo, declared-to, reached}
 use Rattle.dtd_heads.specs.Heads.{mostNumbers, Heads, heads-begun}
-use Rattle.dtd_texts.specs.declared.Turn.{Turn}
+use Rattle.dtd_turns.specs.declared.Turn.{Turn}
+use Rattle.dtd_turns.specs.Standing.{Standing, Turned}
 use Rattle.dtd_texts.specs.declared.Reading.{Reading}
 use Rattle.dtd_texts.specs.Whole.{whole, whole-turn, reading-whole}
-use Rattle.dtd_texts.specs.Standing.{Standing, Turned}
 
 -- the lists that are filled
 pub record Lists (elements contents ends attributes heads rows : List ℕ) : Type 0 where
@@ -49,6 +49,10 @@ pub record Holding (known : Name → Bool) (text : List ℕ) (ds : List Declarat
   pub few-attributes : defined ≤ mostAttributes
   pub listed : namesAt text (take defined attributes) ≡ attributeNames ds
   pub table : Heads text ds heads many rows
+
+-- a text that is refused
+abbrev pub refusedAt : (number at : ℕ) → Reading
+refusedAt k p = record { number = k; at = p; elements = 0; attributes = 0; many = 0 }
 
 -- what the reading of a text came to
 abbrev pub Told : (known : Name → Bool) → List ℕ → Reading → (elements contents ends attributes heads rows : List ℕ) → Read (List Declaration) → Type 0
@@ -112,11 +116,11 @@ module _ (known : Name → Bool) (text : List ℕ) where
       turned : reading known text ≡ onward (turn known (declaredTo text at) (drop at text)) (λ new. whole known (declaredTo text at ++ new))
       turned = g .same ∙ whole-turn known (declaredTo text at) (drop at text) some-left
 
-      pub refused : (e a m : ℕ) → t .number ≢ 0 → Told known text (record { number = t .number; at = t .at; elements = e; attributes = a; many = m }) es cs qs ns′ hs′ ws′ (reading known text)
-      refused e a m n = rw turned (by (turn known (declaredTo text at) (drop at text)) x)
+      pub refused : (r : Reading) → t .number ≢ 0 → r ≡ refusedAt (t .number) (t .at) → Told known text r es cs qs ns′ hs′ ws′ (reading known text)
+      refused r n f = rw (f, turned) (by (turn known (declaredTo text at) (drop at text)) x)
         where
           by : (o : Read (List Declaration)) → Gave (Turned text (declaredTo text at) ns′ hs′ ws′ t) text (t .number) (t .at) o
-              → Told known text (record { number = t .number; at = t .at; elements = e; attributes = a; many = m }) es cs qs ns′ hs′ ws′ (onward o (λ new. whole known (declaredTo text at ++ new)))
+              → Told known text (refusedAt (t .number) (t .at)) es cs qs ns′ hs′ ws′ (onward o (λ new. whole known (declaredTo text at ++ new)))
           by (stop k s) y = y
           by (ok new s) (z, y, w) = absurd (n z)
 

@@ -1,4 +1,5 @@
 -- `dtd_declared::strictly` meets its contract. Assumes nothing.
+use mathlib.Core.Path.{refl}
 use lib.ListN.{take}
 use Rattle.dtd_names.specs.Named.{namesAt, knownBy}
 use mathlib.Core.Bool.{true}
@@ -8,25 +9,25 @@ use Rattle.dtd_declared.proofs.strictly.Statement.{statement}
 use Rattle.dtd_declared.proofs.strictly.Tie as tie
 
 slice-aggregate-read-text : tie.Need-slice-aggregate-read-text
-slice-aggregate-read-text c = search needs
+slice-aggregate-read-text c = refl
 
 slice-aggregate-read-text-2 : tie.Need-slice-aggregate-read-text-2
-slice-aggregate-read-text-2 c = search needs
+slice-aggregate-read-text-2 c = refl
 
 slice-aggregate-read-text-3 : tie.Need-slice-aggregate-read-text-3
-slice-aggregate-read-text-3 c = search needs
+slice-aggregate-read-text-3 c = refl
 
 slice-aggregate-read-text-4 : tie.Need-slice-aggregate-read-text-4
-slice-aggregate-read-text-4 c = search needs
+slice-aggregate-read-text-4 c = refl
 
 slice-aggregate-read-text-5 : tie.Need-slice-aggregate-read-text-5
-slice-aggregate-read-text-5 c = search needs
+slice-aggregate-read-text-5 c = refl
 
 slice-aggregate-read-text-6 : tie.Need-slice-aggregate-read-text-6
-slice-aggregate-read-text-6 c = search needs
+slice-aggregate-read-text-6 c = refl
 
 read-text-requires : tie.Need-read-text-requires
-read-text-requires c κs = search needs
+read-text-requires c κs = (record { elements-long = refl; contents-long = refl; ends-long = refl; attributes-long = refl; heads-long = refl; rows-long = refl }, c .before .before .before .before .before .before .before .before .pre)
 
 returns : tie.Need-returns
 returns c =

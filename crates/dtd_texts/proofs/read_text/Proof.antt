@@ -1,4 +1,5 @@
 -- `dtd_texts::read_text` meets its contract: the reader stands at a place. Assumes nothing.
+use mathlib.Core.Path.{sym, _∙_}
 use Prim.Native.Nat.{_-_}
 use borrow.Author.Needs.{needs}
 use lib.ListN.{length, take}
@@ -21,23 +22,26 @@ loop-holds c = search (needs, begun)
 turn-at-requires : tie.Need-turn-at-requires Inv-loop μ-loop
 turn-at-requires c κs = search (needs, standing)
 
+refused-at-requires : tie.Need-refused-at-requires Inv-loop μ-loop
+refused-at-requires c κs = search needs
+
 same-length : tie.Need-same-length Inv-loop μ-loop
-same-length c = search (needs, c .before .before .before .before .before .before .before .before .before .before .before .before .before .before .before .before .before .before .before .before .before .before .before .pre .0)
+same-length c = c .before .before .before .before .before .before .before .before .before .before .before .before .before .before .before .loop .inv .long .elements-long ∙ sym (c .before .before .before .before .before .before .before .before .before .before .before .before .before .before .before .before .before .before .before .before .before .before .before .before .pre .0 .elements-long)
 
 same-length-2 : tie.Need-same-length-2 Inv-loop μ-loop
-same-length-2 c = search (needs, c .before .before .before .before .before .before .before .before .before .before .before .before .before .before .before .before .before .before .before .before .before .before .before .pre .0)
+same-length-2 c = c .before .before .before .before .before .before .before .before .before .before .before .before .before .before .before .loop .inv .long .contents-long ∙ sym (c .before .before .before .before .before .before .before .before .before .before .before .before .before .before .before .before .before .before .before .before .before .before .before .before .pre .0 .contents-long)
 
 same-length-3 : tie.Need-same-length-3 Inv-loop μ-loop
-same-length-3 c = search (needs, c .before .before .before .before .before .before .before .before .before .before .before .before .before .before .before .before .before .before .before .before .before .before .before .pre .0)
+same-length-3 c = c .before .before .before .before .before .before .before .before .before .before .before .before .before .before .before .loop .inv .long .ends-long ∙ sym (c .before .before .before .before .before .before .before .before .before .before .before .before .before .before .before .before .before .before .before .before .before .before .before .before .pre .0 .ends-long)
 
 same-length-4 : tie.Need-same-length-4 Inv-loop μ-loop
-same-length-4 c = search (needs, c .before .before .before .before .before .before .before .before .before .before .before .before .before .before .before .before .before .before .before .before .before .before .before .pre .0)
+same-length-4 c = c .before .before .before .before .before .before .before .before .before .turn-at .kept .1 .1 .1 .1 .0 ∙ c .before .before .before .before .before .before .before .before .before .before .before .before .before .before .before .loop .inv .long .attributes-long ∙ sym (c .before .before .before .before .before .before .before .before .before .before .before .before .before .before .before .before .before .before .before .before .before .before .before .before .pre .0 .attributes-long)
 
 same-length-5 : tie.Need-same-length-5 Inv-loop μ-loop
-same-length-5 c = search (needs, c .before .before .before .before .before .before .before .before .before .before .before .before .before .before .before .before .before .before .before .before .before .before .before .pre .0)
+same-length-5 c = c .before .before .before .before .before .before .before .before .before .turn-at .kept .1 .1 .1 .1 .1 .1 .1 .1 .1 .0 ∙ c .before .before .before .before .before .before .before .before .before .before .before .before .before .before .before .loop .inv .long .heads-long ∙ sym (c .before .before .before .before .before .before .before .before .before .before .before .before .before .before .before .before .before .before .before .before .before .before .before .before .pre .0 .heads-long)
 
 same-length-6 : tie.Need-same-length-6 Inv-loop μ-loop
-same-length-6 c = search (needs, c .before .before .before .before .before .before .before .before .before .before .before .before .before .before .before .before .before .before .before .before .before .before .before .pre .0)
+same-length-6 c = c .before .before .before .before .before .before .before .before .before .turn-at .kept .1 .1 .1 .1 .1 .1 .1 .1 .1 .1 .1 .0 ∙ c .before .before .before .before .before .before .before .before .before .before .before .before .before .before .before .loop .inv .long .rows-long ∙ sym (c .before .before .before .before .before .before .before .before .before .before .before .before .before .before .before .before .before .before .before .before .before .before .before .before .pre .0 .rows-long)
 
 returns : tie.Need-returns Inv-loop μ-loop
 returns c = search (needs, refused)
@@ -91,22 +95,22 @@ loop-again-2 : tie.Need-loop-again-2 Inv-loop μ-loop
 loop-again-2 c = search (needs, none-more)
 
 same-length-7 : tie.Need-same-length-7 Inv-loop μ-loop
-same-length-7 c = search (needs, c .before .before .before .before .before .before .before .before .before .before .pre .0)
+same-length-7 c = c .before .loop .inv .long .elements-long ∙ sym (c .before .before .before .before .before .before .before .before .before .before .pre .0 .elements-long)
 
 same-length-8 : tie.Need-same-length-8 Inv-loop μ-loop
-same-length-8 c = search (needs, c .before .before .before .before .before .before .before .before .before .before .pre .0)
+same-length-8 c = c .before .loop .inv .long .contents-long ∙ sym (c .before .before .before .before .before .before .before .before .before .before .pre .0 .contents-long)
 
 same-length-9 : tie.Need-same-length-9 Inv-loop μ-loop
-same-length-9 c = search (needs, c .before .before .before .before .before .before .before .before .before .before .pre .0)
+same-length-9 c = c .before .loop .inv .long .ends-long ∙ sym (c .before .before .before .before .before .before .before .before .before .before .pre .0 .ends-long)
 
 same-length-10 : tie.Need-same-length-10 Inv-loop μ-loop
-same-length-10 c = search (needs, c .before .before .before .before .before .before .before .before .before .before .pre .0)
+same-length-10 c = c .before .loop .inv .long .attributes-long ∙ sym (c .before .before .before .before .before .before .before .before .before .before .pre .0 .attributes-long)
 
 same-length-11 : tie.Need-same-length-11 Inv-loop μ-loop
-same-length-11 c = search (needs, c .before .before .before .before .before .before .before .before .before .before .pre .0)
+same-length-11 c = c .before .loop .inv .long .heads-long ∙ sym (c .before .before .before .before .before .before .before .before .before .before .pre .0 .heads-long)
 
 same-length-12 : tie.Need-same-length-12 Inv-loop μ-loop
-same-length-12 c = search (needs, c .before .before .before .before .before .before .before .before .before .before .pre .0)
+same-length-12 c = c .before .loop .inv .long .rows-long ∙ sym (c .before .before .before .before .before .before .before .before .before .before .pre .0 .rows-long)
 
 returns-2 : tie.Need-returns-2 Inv-loop μ-loop
 returns-2 c = search (needs, ended)
@@ -119,6 +123,7 @@ read-text-spec =
     μ-loop
     loop-holds
     turn-at-requires
+    refused-at-requires
     same-length
     same-length-2
     same-length-3

@@ -10,7 +10,7 @@ use Rattle.dtd_elements.specs.Stored.{Stored}
 use Rattle.dtd_before.specs.Paths.{declaredTo}
 use Rattle.dtd_before.specs.Scans.{Ready}
 use Rattle.dtd_heads.specs.Heads.{Heads}
-use Rattle.dtd_texts.specs.declared.Turn.{Turn}
+use Rattle.dtd_turns.specs.declared.Turn.{Turn}
 
 -- Elements and attributes that were declared up to a place stand at these places, and the table has their rows; something follows.
 pub record Standing (text : List ℕ) (at : ℕ) (elements : List ℕ) (count : ℕ) (attributes : List ℕ) (defined : ℕ)

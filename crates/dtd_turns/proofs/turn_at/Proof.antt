@@ -1,10 +1,10 @@
--- `dtd_texts::turn_at` meets its contract: one law for each way. Assumes nothing.
+-- `dtd_turns::turn_at` meets its contract: one law for each way. Assumes nothing.
 use lib.ListN.{take}
 use Rattle.dtd_names.specs.Named.{namesAt, knownBy}
-use Rattle.dtd_texts.specs.Ways.{white, no-mark, mark-inside, noted, lists, declares}
+use Rattle.dtd_turns.specs.Ways.{white, no-mark, mark-inside, noted, lists, declares}
 use borrow.Author.Needs.{needs}
-use Rattle.dtd_texts.proofs.turn_at.Statement.{statement}
-use Rattle.dtd_texts.proofs.turn_at.Tie as tie
+use Rattle.dtd_turns.proofs.turn_at.Statement.{statement}
+use Rattle.dtd_turns.proofs.turn_at.Tie as tie
 
 shared-slice-read-is-white : tie.Need-shared-slice-read-is-white
 shared-slice-read-is-white c = search needs
@@ -65,13 +65,13 @@ nothing-requires-4 : tie.Need-nothing-requires-4
 nothing-requires-4 c κs = search needs
 
 same-length : tie.Need-same-length
-same-length c = search needs
+same-length c = c .before .before .before .before .before .before .before .attlist-at .kept .1 .1 .1 .0
 
 same-length-2 : tie.Need-same-length-2
-same-length-2 c = search needs
+same-length-2 c = c .before .before .before .before .before .before .before .attlist-at .kept .1 .1 .1 .1 .1 .1 .1 .1 .0
 
 same-length-3 : tie.Need-same-length-3
-same-length-3 c = search needs
+same-length-3 c = c .before .before .before .before .before .before .before .attlist-at .kept .1 .1 .1 .1 .1 .1 .1 .1 .1 .1 .0
 
 returns-4 : tie.Need-returns-4
 returns-4 c =

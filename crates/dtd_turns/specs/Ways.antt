@@ -25,8 +25,8 @@ use Rattle.dtd_before.specs.Paths.{declaredTo}
 use Rattle.dtd_heads.specs.Heads.{heads-element}
 use Rattle.dtd_attributes.specs.declared.Listed.{Listed}
 use Rattle.dtd_attributes.specs.Listed.{ListedCame}
-use Rattle.dtd_texts.specs.declared.Turn.{Turn}
-use Rattle.dtd_texts.specs.Standing.{Standing, Turned}
+use Rattle.dtd_turns.specs.declared.Turn.{Turn}
+use Rattle.dtd_turns.specs.Standing.{Standing, Turned}
 
 -- behind `<!`, at a hyphen: to behind the comment
 abbrev pub commenting : Reader (Unit {0})

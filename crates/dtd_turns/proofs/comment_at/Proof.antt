@@ -1,8 +1,8 @@
--- `dtd_texts::comment_at` meets its contract. Assumes nothing.
-use Rattle.dtd_texts.specs.Ways.{no-hyphens, hyphens-inside, commented}
+-- `dtd_turns::comment_at` meets its contract. Assumes nothing.
+use Rattle.dtd_turns.specs.Ways.{no-hyphens, hyphens-inside, commented}
 use borrow.Author.Needs.{needs}
-use Rattle.dtd_texts.proofs.comment_at.Statement.{statement}
-use Rattle.dtd_texts.proofs.comment_at.Tie as tie
+use Rattle.dtd_turns.proofs.comment_at.Statement.{statement}
+use Rattle.dtd_turns.proofs.comment_at.Tie as tie
 
 slice-aggregate-word-at : tie.Need-slice-aggregate-word-at
 slice-aggregate-word-at c = search needs
