@@ -32,8 +32,8 @@
  *     shrike_names                    under 10,000
  *     shrike_import_spot              under 10,000
  *     shrike_translate                under 104,000
- *     shrike_check                    under 100,000
- *     shrike_edit                     under 133,000
+ *     shrike_check                    under 42,000
+ *     shrike_edit                     under 75,000
  *     shrike_compare                  under 57,000
  *
  * So a thread keeps 160 KiB free. (A main thread has 8 MiB by custom. Threads of musl have 128 KiB unless they ask for more.) A large
