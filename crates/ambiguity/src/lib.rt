@@ -6,7 +6,7 @@ use sets::has;
 use sets::is_within;
 use sets::one;
 use sets::when;
-use walks::one_each;
+use set_walks::one_each;
 ghost use mathlib.Core.Path.{_≡_};
 ghost use mathlib.Core.Bool.{true};
 ghost use lib.ListN.{length, take};

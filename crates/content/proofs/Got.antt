@@ -17,7 +17,7 @@ use Rattle.paper.specs.Sets.{when, firstWord, lastWord}
 use Rattle.paper.specs.Schema.{symbolsOf}
 use Rattle.basic_laws.specs.Lists.{drop-next}
 use Rattle.basic_laws.specs.Bools.{clash}
-use Rattle.walks.specs.Joined.{joined}
+use Rattle.set_walks.specs.Joined.{joined}
 use Rattle.model_parts.specs.declared.Part.{Part}
 use Rattle.content_laws.specs.Names.{count-some}
 use Rattle.content_laws.specs.Symbols.{symbols-some}

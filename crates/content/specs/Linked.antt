@@ -10,7 +10,7 @@ use Rattle.paper.specs.Expressions.{Expr, name, seq, alt, opt, count}
 use Rattle.paper.specs.Sets.{when, last, firstWord, lastWord, followWord}
 use Rattle.content_laws.specs.Words.{last-word}
 use Rattle.sets.specs.Union.{or-assoc}
-use Rattle.walks.specs.Joined.{joined, length-joined, joined-at}
+use Rattle.set_walks.specs.Joined.{joined, length-joined, joined-at}
 
 -- each word with f's word for its place in it, where the first place is j
 abbrev pub orFrom : (ℕ → ℕ) → ℕ → List ℕ → List ℕ

@@ -9,7 +9,7 @@ use model_parts::nothing;
 use model_parts::one_name;
 use model_parts::with_none;
 use paper::MOST_NAMES;
-use walks::connect;
+use set_walks::connect;
 ghost use mathlib.Core.Path.{_≡_};
 ghost use lib.ListN.{length, replicate};
 ghost use Rattle.paper.specs.Basics.{mostNames};

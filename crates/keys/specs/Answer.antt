@@ -9,8 +9,8 @@ use Rattle.paper.specs.Tokens.{toks}
 use Rattle.paper.specs.Rules.{ofTable}
 use Rattle.paper.specs.Judgement.{Answer, before, isId, isRef, valueIn, repeated, dangling, keyFault}
 use Rattle.field.specs.Field.{marked}
-use Rattle.walk.specs.declared.Walk.{Walk}
-use Rattle.walk.specs.Walk.{left-none, Found}
+use Rattle.key_walk.specs.declared.Walk.{Walk}
+use Rattle.key_walk.specs.Walk.{left-none, Found}
 use Rattle.keys.specs.declared.Fault.{Fault}
 use Rattle.keys.specs.declared.Marked.{Marked}
 use Rattle.keys.specs.Marking.{faultOf, answerOf, idsLeft, refsLeft}

@@ -13,8 +13,8 @@ use Rattle.paper.specs.Rules.{ofTable}
 use Rattle.paper.specs.Judgement.{Answer, isRef}
 use Rattle.tokens.specs.Sorts.{valueTok}
 use Rattle.field.specs.Field.{marked}
-use Rattle.walk.specs.declared.Walk.{Walk}
-use Rattle.walk.specs.Walk.{behind, left-step, left-none, valueOf, Found}
+use Rattle.key_walk.specs.declared.Walk.{Walk}
+use Rattle.key_walk.specs.Walk.{behind, left-step, left-none, valueOf, Found}
 use Rattle.keys.specs.declared.Fault.{Fault}
 use Rattle.keys.specs.declared.Refs.{Refs}
 use Rattle.keys.specs.Marking.{fieldWords, faultOf, answerOf, has-bit, refsLeft}

@@ -15,8 +15,8 @@ use Rattle.basic_laws.specs.Bools.{clash}
 use Rattle.tokens.specs.Sorts.{valueTok}
 use Rattle.tokens.specs.Theorems.{value-small}
 use Rattle.field.specs.Field.{marked, mark, Field, field-mark, Noted}
-use Rattle.walk.specs.declared.Walk.{Walk}
-use Rattle.walk.specs.Walk.{left, onward, left-value, left-none}
+use Rattle.key_walk.specs.declared.Walk.{Walk}
+use Rattle.key_walk.specs.Walk.{left, onward, left-value, left-none}
 use Rattle.keys.specs.declared.Fault.{Fault}
 use Rattle.keys.specs.declared.Refs.{Refs}
 

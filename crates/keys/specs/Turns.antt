@@ -15,8 +15,8 @@ use Rattle.paper.specs.Judgement.{isId, isRef, valueIn, repeated}
 use Rattle.basic_laws.specs.Bools.{clash}
 use Rattle.tokens.specs.Sorts.{valueTok}
 use Rattle.field.specs.Field.{marked, Field, Noted}
-use Rattle.walk.specs.declared.Walk.{Walk}
-use Rattle.walk.specs.Walk.{left-none, valueAt, Found}
+use Rattle.key_walk.specs.declared.Walk.{Walk}
+use Rattle.key_walk.specs.Walk.{left-none, valueAt, Found}
 use Rattle.keys.specs.declared.Fault.{Fault}
 use Rattle.keys.specs.declared.Refs.{Refs}
 use Rattle.keys.specs.declared.Marked.{Marked}

@@ -16,9 +16,9 @@ use Rattle.paper.specs.Table.{cell, countAt, noChildAt, firstAt, lastAt, namesA
 use Rattle.paper.specs.Rules.{State, start, at, setAt, move, ended}
 use Rattle.paper_laws.specs.Basics.{find-some, find-same, all-at}
 use Rattle.sets.specs.Chosen.{chosen-none, chosen-take}
-use Rattle.walks.specs.Named.{nextNamed, place, named-find}
-use Rattle.walks.specs.declared.Next.{Next}
-use Rattle.walks.specs.declared.Next.the-variants.{At as There, Nowhere}
+use Rattle.set_walks.specs.Named.{nextNamed, place, named-find}
+use Rattle.set_walks.specs.declared.Next.{Next}
+use Rattle.set_walks.specs.declared.Next.the-variants.{At as There, Nowhere}
 use Rattle.table.specs.Run.{stateOf, stepped, inside, sound, Ready, Stepped}
 use Rattle.table.specs.declared.Run.{Run}
 use Rattle.table.specs.declared.Run.the-variants.{Start, At, Lost}

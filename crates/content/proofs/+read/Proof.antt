@@ -15,7 +15,7 @@ use Rattle.model_parts.proofs.in_sequence.Reads as in-sequence-reads
 use Rattle.model_parts.proofs.nothing.Reads as nothing-reads
 use Rattle.model_parts.proofs.one_name.Reads as one-name-reads
 use Rattle.model_parts.proofs.with_none.Reads as with-none-reads
-use Rattle.walks.proofs.connect.Reads as connect-reads
+use Rattle.set_walks.proofs.connect.Reads as connect-reads
 use Rattle.content.proofs.+read.{statement}
 use Rattle.content.proofs.+read.Tie.{close}
 
