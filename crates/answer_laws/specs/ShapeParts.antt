@@ -4,13 +4,10 @@ use mathlib.Core.Bool.{Bool, true, false, _&&_}
 use mathlib.Core.List.{List}
 use Prim.Native.Nat.{ℕ, _≤_}
 use native.Mathlib.Omega.{arith}
-use borrow.Author.Tests.{leb-true}
-use lib.Dec.{leb}
 use lib.ListN.{length, take}
-use Rattle.paper.specs.declared.Tok.{Tok}
-use Rattle.paper.specs.Basics.{mostTokens}
 use Rattle.paper.specs.Tokens.{toks}
-use Rattle.paper.specs.Shape.{isElement, shallow, shapeOf}
+use Rattle.paper.specs.Shape.{isElement, shapeOf}
+use Rattle.shape_laws.specs.Shaped.{shaped}
 
 pub and-left : (a b : Bool) → a && b ≡ true → a ≡ true
 and-left true b e = refl
@@ -23,17 +20,7 @@ and-right false b e = let z : _≡_ {A = ℕ} 0 1 = cc in absurd (omega arith)
 -- what shape says of the buffer and of the tokens
 module _ (buffer : List ℕ) (used : ℕ) (e : shapeOf buffer used ≡ true) where
   pub shape-long : used ≤ length buffer
-  unfolding shapeOf
-  shape-long =
-      let d : List Tok = toks (take used buffer) in
-      leb-true used (length buffer)
-      (and-right (leb 2 used && leb used mostTokens) (leb used (length buffer))
-      (and-left (leb 2 used && leb used mostTokens && leb used (length buffer)) (isElement d)
-      (and-left (leb 2 used && leb used mostTokens && leb used (length buffer) && isElement d) (shallow d) e)))
+  shape-long = shaped buffer used e .long
 
   pub shape-element : isElement (toks (take used buffer)) ≡ true
-  unfolding shapeOf
-  shape-element =
-      let d : List Tok = toks (take used buffer) in
-      and-right (leb 2 used && leb used mostTokens && leb used (length buffer)) (isElement d)
-      (and-left (leb 2 used && leb used mostTokens && leb used (length buffer) && isElement d) (shallow d) e)
+  shape-element = shaped buffer used e .one

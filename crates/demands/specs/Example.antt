@@ -6,9 +6,10 @@ use contract.Lifetimes.{Lfts}
 use denote.Ref.{RefT}
 use Rattle.paper.specs.Table.{tableOf, translate}
 use Rattle.paper.specs.Edits.{Request, Outcome, edit}
-use Rattle.paper.specs.SmallShade.{buffer}
+use Rattle.paper.specs.SmallShade.{buffer, second}
 use Rattle.contracts.specs.{Allows}
-use Rattle.promises.specs.Statements.{Translated, Runs, EachRight}
+use Rattle.promises.specs.Right.{EachRight}
+use Rattle.promises.specs.Statements.{Translated, Runs}
 use Rattle.promises.specs.Example as example
 use Rattle.shrikemuff.proofs.Contracts.{shrike-translate, shrike-edit}
 use Rattle.demands.specs.Theorems.{shrikes, demand-3}
@@ -30,12 +31,12 @@ translates file table = let o : ℕ × List ℕ = translate file table in record
   told = refl;
 }
 
-performs : (table buffer : List ℕ) (used : ℕ) (q : Request) → Allows shrike-edit (table, buffer, used, q) (edit table buffer used q)
-performs table buffer used q = let o : Outcome = edit table buffer used q in record {
-  κs = ([], ([], ([], tt)));
-  given = (lent table, (lent buffer, (used, (q .operation, (q .place, (lent (q .piece), tt))))));
+performs : (table buffer : List ℕ) (used : ℕ) (q : Request) (second : List ℕ) → Allows shrike-edit (table, buffer, used, q, second) (edit table buffer used q second)
+performs table buffer used q second = let o : Outcome = edit table buffer used q second in record {
+  κs = ([], ([], ([], ([], tt))));
+  given = (lent table, (lent buffer, (used, (q .operation, (q .place, (lent (q .piece), (lent second, tt)))))));
   result = record { number = o .number; place = o .place; used = o .used; change = o .change; children = o .children };
-  after = (lent table, (lent (o .buffer), (used, (q .operation, (q .place, (lent (q .piece), tt))))));
+  after = (lent table, (lent (o .buffer), (used, (q .operation, (q .place, (lent (q .piece), (lent (o .back), tt)))))));
   its-input = refl;
   its-outcome = refl;
   told = refl;
@@ -56,7 +57,7 @@ translated = let t = example.translated in record {
 runs : (table buffer : List ℕ) (used : ℕ) (l : List Request) → Runs shrikes table buffer used (example.made table buffer used l)
 runs table buffer used [] = tt
 runs table buffer used (q ∷ l) =
-    let o : Outcome = edit table buffer used q in (performs table buffer used q, runs table (o .buffer) (o .used) l)
+    let o : Outcome = edit table buffer used q second in (performs table buffer used q second, runs table (o .buffer) (o .used) l)
 
 -- ---- what is promised
 

@@ -3,10 +3,12 @@
 use Rattle.contracts.specs.{TakesAll, Allows}
 use Rattle.promises.specs.Calls.{Calls, Faithful}
 use Rattle.promises.specs.Statements as promised
+use Rattle.promises.specs.Undo as undo
 use Rattle.promises.specs.Dtd as dtd
 use Rattle.promises.specs.Inclusion as inclusion
 use Rattle.promises.specs.Cost as cost
 use Rattle.promises.specs.Theorems as proved
+use Rattle.promises.specs.UndoTheorems as undone
 use Rattle.promises.specs.DtdTheorems as texts
 use Rattle.shrikemuff.proofs.Contracts.{shrike-read, shrike-write, shrike-translate, shrike-check, shrike-edit, shrike-compare}
 use Rattle.shrikemuff.proofs.Contracts.{shrike-import, shrike-names, shrike-import-spot}
@@ -19,7 +21,7 @@ shrikes = record {
   Writes = λ tokens buffer. Allows shrike-write (tokens, buffer);
   Translates = λ file table. Allows shrike-translate (file, table);
   Checks = λ table buffer used. Allows shrike-check (table, buffer, used);
-  Performs = λ table buffer used q. Allows shrike-edit (table, buffer, used, q);
+  Performs = λ table buffer used q second. Allows shrike-edit (table, buffer, used, q, second);
   Compares = λ old new e buffer. Allows shrike-compare (old, new, e, buffer);
   Imports = λ text buffer. Allows shrike-import (text, buffer);
   Names = λ text buffer. Allows shrike-names (text, buffer);
@@ -32,7 +34,7 @@ faithful = record {
   writes = λ tokens buffer. contracts.writes (tokens, buffer);
   translates = λ file table. contracts.translates (file, table);
   checks = λ table buffer used. contracts.checks (table, buffer, used);
-  performs = λ table buffer used q. contracts.performs (table, buffer, used, q);
+  performs = λ table buffer used q second. contracts.performs (table, buffer, used, q, second);
   compares = λ old new e buffer. contracts.compares (old, new, e, buffer);
   imports = λ text buffer. contracts.imports (text, buffer);
   names = λ text buffer. contracts.lists (text, buffer);
@@ -146,6 +148,23 @@ table-reads = proved.table-reads shrikes faithful
 
 pub demand-3 : promised.Demand3 shrikes
 demand-3 = proved.demand-3 shrikes faithful
+
+-- ---- item 2
+
+pub edit-second : undo.EditSecond shrikes
+edit-second = undone.edit-second shrikes faithful
+
+pub back-reads : undo.BackReads shrikes
+back-reads = undone.back-reads shrikes faithful
+
+pub undo-done : undo.UndoDone shrikes
+undo-done = undone.undo-done shrikes faithful
+
+pub redo-done : undo.RedoDone shrikes
+redo-done = undone.redo-done shrikes faithful
+
+pub run-back : undo.RunBack shrikes
+run-back = undone.run-back shrikes faithful
 
 -- ---- item 4
 

@@ -6,14 +6,14 @@ use mathlib.Core.List.{List, [], _∷_, _++_, append-assoc, append-nil}
 use Prim.Native.Nat.{ℕ, zero, suc, _+_, _-_, _*_, _≤_, _<_}
 use native.Mathlib.Omega.{arith}
 use native.Mathlib.Numerals.{add-one}
-use lib.ListN.{length, take, drop, getD, drop-of-length-le}
+use lib.ListN.{length, take, drop, getD, length-replicate, drop-of-length-le}
 use lib.Seq.{drop-cons}
-use Rattle.paper.specs.Basics.{mostTokens, mostFile}
+use Rattle.paper.specs.Basics.{mostTokens, mostBack, mostFile}
 use Rattle.paper.specs.Schema.{stop, ok}
 use Rattle.paper.specs.Table.{proper}
 use Rattle.paper.specs.Rules.{Rules, ofTable}
-use Rattle.paper.specs.Edits.{Request, Outcome, outcome, editBy, edit}
-use Rattle.paper.specs.Program.{halt, line, request, editLines}
+use Rattle.paper.specs.Edits.{Request, Edited, refused, done, Outcome, outcome, editBy, edit}
+use Rattle.paper.specs.Program.{Line, halt, line, request, second, editLines}
 use Rattle.edits.specs.declared.Answer.{Answer}
 use Rattle.edits.specs.Outcomes.{outcomeOf}
 use Rattle.edit_file.specs.declared.Edit.{Edit}
@@ -32,18 +32,33 @@ module _ (R : Rules) (k : ℕ) (doc : List ℕ) (used : ℕ) where
   run-end zero = refl
   run-end (suc m) = refl
 
+  -- an edit turns on the second buffer's length alone
+  same-edit : (q : Request) (back : List ℕ) → length back ≡ mostBack → editBy R doc used q second ≡ editBy R doc used q back
+  unfolding editBy
+  same-edit q back l = rw (l, length-replicate {A = ℕ} mostBack 0)
+
   module _ (m b : ℕ) (s : List ℕ) where
     run-stop : {n : ℕ} → request (b ∷ s) ≡ stop n → editLines (suc m) R k doc used (b ∷ s) ≡ halt n ∷ []
     run-stop e = rw (e, editLines)
 
-    run-more : {q : Request} {r : List ℕ} → request (b ∷ s) ≡ ok q r → (o : Outcome) → o ≡ outcome doc used (editBy R doc used q)
-        → editLines (suc m) R k doc used (b ∷ s) ≡ line k (o .number) (o .place) (o .used) ∷ editLines m R (suc k) (o .buffer) (o .used) r
-    run-more e o f = rw (e, editLines, f)
+    -- what is told of an outcome, and of the edits after it
+    abbrev told : (r : List ℕ) → Outcome → List Line
+    told r o = line k (o .number) (o .place) (o .used) ∷ editLines m R (suc k) (o .buffer) (o .used) r
+
+    -- what the second buffer holds is not told
+    told-same : (r first back : List ℕ) (x : Edited) → told r (outcome doc used first x) ≡ told r (outcome doc used back x)
+    told-same r first back (refused n p) = refl
+    told-same r first back (done m) = refl
+
+    run-more : {q : Request} {r back : List ℕ} → request (b ∷ s) ≡ ok q r → length back ≡ mostBack → (o : Outcome) → o ≡ outcome doc used back (editBy R doc used q back)
+        → editLines (suc m) R k doc used (b ∷ s) ≡ told r o
+    run-more {q} {r} {back} e l o f =
+        rw (e, editLines) (told-same r second back (editBy R doc used q second) ∙ ap (λ x. told r (outcome doc used back x)) (same-edit q back l) ∙ ap (told r) (sym f))
 
 -- ---- the loop
 
 -- the lines of the edits before a place of the file are put; those of the others follow
-pub record Going (table doc₀ : List ℕ) (used₀ : ℕ) (file out₀ : List ℕ) (at : ℕ) (doc out piece : List ℕ) (used from k to : ℕ) : Type 0 where
+pub record Going (table doc₀ : List ℕ) (used₀ : ℕ) (file out₀ : List ℕ) (at : ℕ) (doc out piece back : List ℕ) (used from k to : ℕ) : Type 0 where
   pub within : from ≤ length file
   pub few : 3 * k ≤ from + 3
   pub some : 1 ≤ k
@@ -51,6 +66,7 @@ pub record Going (table doc₀ : List ℕ) (used₀ : ℕ) (file out₀ : List �
   pub long : length out ≡ length out₀
   pub held : length doc ≡ length doc₀
   pub places : length piece ≡ mostTokens
+  pub second-places : length back ≡ mostBack
   pub lines : List ℕ
   pub put : Put out₀ at lines to out
   pub same : text (editLines (length file) (ofTable table) 1 doc₀ used₀ file) ≡ lines ++ text (editLines (suc (length file) - k) (ofTable table) k doc used (drop from file))
@@ -59,8 +75,9 @@ module _ (table doc₀ : List ℕ) (used₀ : ℕ) (file out₀ : List ℕ) (at 
   abbrev all-lines : List ℕ
   all-lines = text (editLines (length file) (ofTable table) 1 doc₀ used₀ file)
 
-  pub go-none : (piece : List ℕ) → at ≤ lineRoom → length out₀ ≡ outputRoom → length piece ≡ mostTokens → Going table doc₀ used₀ file out₀ at doc₀ out₀ piece used₀ 0 1 at
-  go-none piece h o l =
+  pub go-none : (piece back : List ℕ) → at ≤ lineRoom → length out₀ ≡ outputRoom → length piece ≡ mostTokens → length back ≡ mostBack
+      → Going table doc₀ used₀ file out₀ at doc₀ out₀ piece back used₀ 0 1 at
+  go-none piece back h o l n =
       let e : suc (length file) - 1 ≡ length file = omega arith in
       record {
         within = omega arith;
@@ -70,12 +87,13 @@ module _ (table doc₀ : List ℕ) (used₀ : ℕ) (file out₀ : List ℕ) (at 
         long = refl;
         held = refl;
         places = l;
+        second-places = n;
         lines = [];
         put = put-none out₀ at (omega arith);
         same = rw e;
       }
 
-  module _ {doc out piece : List ℕ} {used from k to : ℕ} (g : Going table doc₀ used₀ file out₀ at doc out piece used from k to) where
+  module _ {doc out piece back : List ℕ} {used from k to : ℕ} (g : Going table doc₀ used₀ file out₀ at doc out piece back used from k to) where
     pub go-end : length file ≤ from → Put out₀ at all-lines to out
     go-end h =
         put-as (g .put)
@@ -109,24 +127,24 @@ module _ (table doc₀ : List ℕ) (used₀ : ℕ) (file out₀ : List ℕ) (at 
         pub go-less : e .number ≡ 0 → length file - e .next < length file - from
         go-less z = omega (arith, a .on z)
 
-        module _ (z : e .number ≡ 0) (ok-table : proper table ≡ true) {r : Answer} {doc′ : List ℕ}
-            (o : outcomeOf r doc′ ≡ edit table doc used (record { operation = e .operation; place = e .place; piece = take (e .count) piece′ })) where
+        module _ (z : e .number ≡ 0) (ok-table : proper table ≡ true) {r : Answer} {doc′ back′ : List ℕ}
+            (o : outcomeOf r doc′ back′ ≡ edit table doc used (record { operation = e .operation; place = e .place; piece = take (e .count) piece′ }) back) where
           abbrev q : Request
           q = record { operation = e .operation; place = e .place; piece = take (e .count) piece′ }
 
-          by-table : outcomeOf r doc′ ≡ outcome doc used (editBy (ofTable table) doc used q)
+          by-table : outcomeOf r doc′ back′ ≡ outcome doc used back (editBy (ofTable table) doc used q back)
           unfolding edit
           by-table = o ∙ rw ok-table
 
-          pub go-more : {to′ : ℕ} {out′ : List ℕ} → length doc′ ≡ length doc → length piece′ ≡ mostTokens → Put out to (lineOf (line k (r .number) (r .place) (r .used))) to′ out′
-              → to′ ≤ to + lineRoom → Going table doc₀ used₀ file out₀ at doc′ out′ piece′ (r .used) (e .next) (k + 1) to′
-          go-more {to′} {out′} kept l p w =
+          pub go-more : {to′ : ℕ} {out′ : List ℕ} → length doc′ ≡ length doc → length back′ ≡ length back → length piece′ ≡ mostTokens → Put out to (lineOf (line k (r .number) (r .place) (r .used))) to′ out′
+              → to′ ≤ to + lineRoom → Going table doc₀ used₀ file out₀ at doc′ out′ piece′ back′ (r .used) (e .next) (k + 1) to′
+          go-more {to′} {out′} kept kept-back l p w =
               let n = a .ended .went z in
               let f : request (getD file from 0 ∷ drop (suc from) file) ≡ ok q (drop (e .next) file) = rw next at (n .reads ∙ ap (λ x. ok x (drop (e .next) file)) (n .holds)) in
               let m : suc (length file) - (k + 1) ≡ length file - k = omega arith in
               let t : text (editLines (suc (length file) - k) (ofTable table) k doc used (drop from file))
               ≡ lineOf (line k (r .number) (r .place) (r .used)) ++ text (editLines (suc (length file) - (k + 1)) (ofTable table) (k + 1) doc′ (r .used) (drop (e .next) file)) =
-              rw (next, left, m, add-one k, run-more (ofTable table) k doc used (length file - k) (getD file from 0) (drop (suc from) file) f (outcomeOf r doc′) by-table, text-more) in
+              rw (next, left, m, add-one k, run-more (ofTable table) k doc used (length file - k) (getD file from 0) (drop (suc from) file) f (g .second-places) (outcomeOf r doc′ back′) by-table, text-more) in
               record {
                 within = n .within;
                 few = omega (arith, g .few, a .on z);
@@ -135,6 +153,7 @@ module _ (table doc₀ : List ℕ) (used₀ : ℕ) (file out₀ : List ℕ) (at 
                 long = put-length p ∙ g .long;
                 held = kept ∙ g .held;
                 places = l;
+                second-places = kept-back ∙ g .second-places;
                 lines = g .lines ++ lineOf (line k (r .number) (r .place) (r .used));
                 put = put-both (g .put) p;
                 same = g .same ∙ ap (λ l. g .lines ++ l) t ∙ sym (append-assoc (g .lines) (lineOf (line k (r .number) (r .place) (r .used))) (text (editLines (suc (length file) - (k + 1)) (ofTable table) (k + 1) doc′ (r .used) (drop (e .next) file))));

@@ -1,12 +1,13 @@
 // The lines of the edits in an edit file: each edit is split off, made and told.
 //
 // The table is a proper one. The edits change the document that is lent; the lines go into a buffer with room for as many as a file can
-// ask for. Assumes nothing.
+// ask for. Each edit is lent a second buffer with room for any inverse. Assumes nothing.
 use edit_file::edit_at;
 use lines::LINE;
 use lines::put_line;
 use lines::put_stop;
 use paper::DONE;
+use paper::MOST_BACK;
 use paper::MOST_TOKENS;
 ghost use mathlib.Core.Path.{_≡_};
 ghost use mathlib.Core.Bool.{true};
@@ -36,6 +37,7 @@ pub fn put_edits(
     ensures { λ r. ⌜ Put (now (out .entry)) at (text (editLines (length (now (file .entry))) (ofTable (now (table .entry))) 1 (now (doc .entry)) used (now (file .entry)))) r (now (out .exit)) ⌝ }
 {
     let mut piece = [0u32; MOST_TOKENS];
+    let mut back = [0u32; MOST_BACK];
     let mut held = used;
     let mut from: usize = 0;
     let mut k: usize = 1;
@@ -46,7 +48,15 @@ pub fn put_edits(
             return put_stop(out, to, e.number);
         }
         let n = e.count;
-        let a = edits::edit(table, doc, held, e.operation, e.place as usize, &piece[..n]);
+        let a = edits::edit(
+            table,
+            doc,
+            held,
+            e.operation,
+            e.place as usize,
+            &piece[..n],
+            &mut back,
+        );
         to = put_line(out, to, k, a.number, a.place, a.used);
         held = a.used;
         from = e.next;

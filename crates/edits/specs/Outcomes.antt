@@ -2,11 +2,11 @@
 use mathlib.Core.Path.{_≡_, refl, sym, ap, ap₂, subst, _∙_}
 use mathlib.Core.Bool.{Bool, true, false, not, _&&_, and-eq-true-iff}
 use mathlib.Core.List.{List}
-use Prim.Native.Nat.{ℕ, zero, suc, _+_, _-_, _≤_}
+use Prim.Native.Nat.{ℕ, zero, suc, _+_, _-_, _≤_, _<_}
 use native.Mathlib.Omega.{arith}
 use borrow.Author.Tests.{leb-true, ne-eqb, not-true, not-false}
 use lib.Dec.{leb}
-use lib.IntN.{ℤ, pos, _-ℤ_}
+use lib.IntN.{pos, _-ℤ_}
 use lib.ListN.{length, take, drop, length-take}
 use lib.Seq.{take-take, length-take-le}
 use Rattle.paper.specs.Basics.{mostTokens}
@@ -16,7 +16,9 @@ use Rattle.paper.specs.Table.{proper}
 use Rattle.paper.specs.Rules.{ofTable}
 use Rattle.paper.specs.Judgement.{judge}
 use Rattle.paper.specs.Judgement as judgement
-use Rattle.paper.specs.Edits.{Request, spliceAt, spliceCut, coming, edited, touchedBy, childrenOf, lookedAt, Made, made, refused, done, answered, editing, Outcome, written, outcome, editBy, edit}
+use Rattle.paper.specs.Requests.{Request, spliceAt, spliceCut, coming, edited, touchedBy}
+use Rattle.paper.specs.Back.{inverse, needs, noted}
+use Rattle.paper.specs.Edits.{childrenOf, lookedAt, Made, made, Edited, refused, done, formFault, sizeFault, answered, editing, Outcome, written, outcome, editBy, edit}
 use Rattle.shape_laws.specs.EditJudged.{Asked, form-iff, allowed-by, coming-toks}
 use Rattle.shape_laws.specs.EditLooked.{piece-comes}
 use Rattle.shape_laws.specs.Widths.{Comes}
@@ -24,21 +26,29 @@ use Rattle.edits.specs.declared.Answer.{Answer}
 use Rattle.edits.specs.declared.Finding.{Finding}
 use Rattle.form.specs.declared.Form.{Form}
 use Rattle.form.specs.Size.{size-is}
-use Rattle.form.specs.Form.{Formed, shaped, allowed-within}
+use Rattle.shape_laws.specs.Shaped.{shaped}
+use Rattle.back_laws.specs.Taken.{shape-document}
+use Rattle.back_laws.specs.Sizes.{size-form, size-short, size-iff}
+use Rattle.back.specs.Noted.{countBy, Cuts, cuts, need-is}
+use Rattle.shape_laws.specs.Five.{allowed-within}
+use Rattle.form.specs.Form.{Formed}
 use Rattle.edits.specs.Touched.{Found}
 use Rattle.edits.specs.Written.{splice-front, splice-piece}
 use Rattle.shape_laws.specs.Bridge.{length-toks, toks-drop}
 
--- with the buffer
-abbrev pub outcomeOf : Answer → List ℕ → Outcome
-outcomeOf r b = record { number = r .number; place = r .place; used = r .used; change = r .change; children = r .children; buffer = b }
+-- with both buffers
+abbrev pub outcomeOf : Answer → (buffer second : List ℕ) → Outcome
+outcomeOf r b s = record { number = r .number; place = r .place; used = r .used; change = r .change; children = r .children; buffer = b; back = s }
 
 abbrev pub refusal : ℕ → ℕ → ℕ → Answer
 refusal number place used = record { number = number; place = place; used = used; change = pos 0; children = 0 }
 
+abbrev pub doneWith : (used end children : ℕ) → Answer
+doneWith used end children = record { number = 0; place = 0; used = end; change = pos end -ℤ pos used; children = children }
+
 -- ---- what holds of an edit in form
 
-pub record Ready (buf : List ℕ) (used : ℕ) (r : Form) (after : List ℕ) : Type 0 where
+pub record Ready (q : Request) (buf : List ℕ) (used : ℕ) (r : Form) (after : List ℕ) : Type 0 where
   pub old : used ≤ mostTokens
   pub few : r .used ≤ mostTokens
   pub room : r .used ≤ length buf
@@ -46,12 +56,14 @@ pub record Ready (buf : List ℕ) (used : ℕ) (r : Form) (after : List ℕ) : T
   pub within : r .at + r .coming ≤ r .used
   pub front : take (r .at) (take (r .used) after) ≡ take (r .at) buf
   pub comes : Comes (drop (r .at) (toks (take (r .at + r .coming) after)))
+  pub under : r .used ≤ used + r .coming
+  pub cut : Cuts q (take used buf) (r .at) (used + r .coming - r .used)
 
 module _ (op place : ℕ) (piece buf : List ℕ) (used : ℕ) where
   abbrev q : Request
   q = record { operation = op; place = place; piece = piece }
 
-  form-ready : {r : Form} {after : List ℕ} → shapeOf buf used ≡ true → Formed (length buf) q (take used buf) r after → r .number ≡ 0 → Ready buf used r after
+  form-ready : {r : Form} {after : List ℕ} → shapeOf buf used ≡ true → Formed (length buf) q (take used buf) r after → r .number ≡ 0 → Ready q buf used r after
   unfolding edited
   form-ready {r} {after} sh f z =
       let s = shaped buf used sh in
@@ -87,6 +99,8 @@ module _ (op place : ℕ) (piece buf : List ℕ) (used : ℕ) where
         front = ap₂ take p (f .tokens z) ∙ splice-front at cut (coming op piece) (take used buf) (omega (arith, length-take-le used buf (s .long)))
             ∙ take-take at used buf (omega arith) ∙ ap (λ k. take k buf) (sym p);
         comes = subst Comes (sym piece-is) (piece-comes (length buf) q (take used buf) (s .one) a);
+        under = omega arith;
+        cut = cuts (length buf) q (take used buf) (shape-document buf used sh) a p (omega arith);
       }
 
   module _ {r : Form} {after : List ℕ} (sh : shapeOf buf used ≡ true) (f : Formed (length buf) q (take used buf) r after) (z : r .number ≡ 0) where
@@ -111,72 +125,98 @@ module _ (op place : ℕ) (piece buf : List ℕ) (used : ℕ) where
     pub ready-comes : Comes (drop (r .at) (toks (take (r .at + r .coming) after)))
     ready-comes = form-ready sh f z .comes
 
+    pub ready-under : r .used ≤ used + r .coming
+    ready-under = form-ready sh f z .under
+
+    pub ready-cut : Cuts q (take used buf) (r .at) (used + r .coming - r .used)
+    ready-cut = form-ready sh f z .cut
+
+    -- the room that the inverse needs
+    pub ready-needs : {n : ℕ} → n ≡ countBy op (used + r .coming - r .used) → 3 + n ≡ needs q (take used buf)
+    ready-needs e = need-is op place piece (take used buf) (r .at) (used + r .coming - r .used) ready-cut e
+
   -- ---- the ways out
 
   answered-form : (k : ℕ) (a : judgement.Answer) (m : Made) → (k ≡ 0 → ⊥) → answered k a m ≡ refused k 0
   answered-form zero a m h = absurd (h refl)
   answered-form (suc k) a m h = refl
 
-  module _ (table : List ℕ) {r : Form} {after : List ℕ} (f : Formed (length buf) q (take used buf) r after) where
-    pub edit-form : {x : Answer} → (r .number ≡ 0 → ⊥) → x ≡ refusal (r .number) 0 used
-        → outcomeOf x buf ≡ outcome buf used (editing (ofTable table) (length buf) q (take used buf))
+  module _ (table second : List ℕ) {r : Form} {after : List ℕ} (f : Formed (length buf) q (take used buf) r after) where
+    abbrev doc : List ℕ
+    doc = take used buf
+
+    abbrev made-edit : Edited
+    made-edit = editing (ofTable table) (length buf) (length second) q doc
+
+    -- a fault before judgement
+    early : {x : Answer} {k : ℕ} → (k ≡ 0 → ⊥) → sizeFault (length buf) (length second) q doc ≡ k → x ≡ refusal k 0 used
+        → outcomeOf x buf second ≡ outcome buf used second made-edit
     unfolding editing
-    edit-form h e =
-        ap (λ y. outcomeOf y buf) e
-        ∙ ap (outcome buf used)
-        (sym (ap (λ k. answered k (judge (ofTable table) (touchedBy q (take used buf)) (toks (edited q (take used buf)))) (made q (take used buf))) (sym (f .number))
-        ∙ answered-form (r .number) (judge (ofTable table) (touchedBy q (take used buf)) (toks (edited q (take used buf)))) (made q (take used buf)) h))
+    early {x} {k} h s e =
+        ap (λ y. outcomeOf y buf second) e
+        ∙ ap (outcome buf used second)
+        (sym (ap (λ k. answered k (judge (ofTable table) (touchedBy q doc) (toks (edited q doc))) (made q doc)) s
+        ∙ answered-form k (judge (ofTable table) (touchedBy q doc) (toks (edited q doc))) (made q doc) h))
 
-    module _ (z : r .number ≡ 0) {w : Finding} (ew : Found table after (r .used) (r .at) (r .coming) w) where
-      fault-is : (w .number, w .place) ≡ judge (ofTable table) (touchedBy q (take used buf)) (toks (edited q (take used buf)))
-      unfolding touchedBy
-      fault-is =
-          ew .fault
-          ∙ ap₂ (λ x y. judge (ofTable table) (touched x y (toks (take (r .used) after))) (toks (take (r .used) after))) (f .place z) (f .come z)
-          ∙ ap (λ l. judge (ofTable table) (touched (spliceAt op place (toks piece) (toks (take used buf))) (length (coming op piece)) (toks l)) (toks l)) (f .tokens z)
+    pub edit-form : {x : Answer} → (r .number ≡ 0 → ⊥) → x ≡ refusal (r .number) 0 used → outcomeOf x buf second ≡ outcome buf used second made-edit
+    edit-form h e = early h (size-form (length buf) (length second) q doc (λ z. h (f .number ∙ z)) ∙ sym (f .number)) e
 
-      editing-is : answered 0 (w .number, w .place) (made q (take used buf)) ≡ editing (ofTable table) (length buf) q (take used buf)
-      unfolding editing
-      editing-is = ap₂ (λ k a. answered k a (made q (take used buf))) (sym z ∙ f .number) fault-is
+    module _ (z : r .number ≡ 0) where
+      in-form : formFault (length buf) q doc ≡ 0
+      in-form = sym (f .number) ∙ z
 
-      pub edit-fault : {x : Answer} → (w .number ≡ 0 → ⊥) → x ≡ refusal (w .number) (w .place) used
-          → outcomeOf x buf ≡ outcome buf used (editing (ofTable table) (length buf) q (take used buf))
-      edit-fault h e =
-          ap (λ y. outcomeOf y buf) e
-          ∙ ap (outcome buf used) (rw (ne-eqb (w .number) 0 h) at editing-is)
+      -- too little room for the inverse
+      pub edit-short : {n : ℕ} {x : Answer} → n ≡ needs q doc → length second < n → x ≡ refusal 5 0 used
+          → outcomeOf x buf second ≡ outcome buf used second made-edit
+      edit-short en h e = early (λ z. omega arith) (size-short (length buf) (length second) q doc in-form (omega arith)) e
 
-      looked-is : w .number ≡ 0 → w .children ≡ lookedAt q (take used buf)
-      unfolding lookedAt touchedBy
-      looked-is h =
-          ew .looked h
-          ∙ ap₂ (λ x y. childrenOf (touched x y (toks (take (r .used) after))) 0 (toks (take (r .used) after))) (f .place z) (f .come z)
-          ∙ ap (λ l. childrenOf (touched (spliceAt op place (toks piece) (toks (take used buf))) (length (coming op piece)) (toks l)) 0 (toks l)) (f .tokens z)
+      module _ {n : ℕ} (en : n ≡ needs q doc) (hn : n ≤ length second) {w : Finding} (ew : Found table after (r .used) (r .at) (r .coming) w) where
+        fault-is : (w .number, w .place) ≡ judge (ofTable table) (touchedBy q doc) (toks (edited q doc))
+        unfolding touchedBy
+        fault-is =
+            ew .fault
+            ∙ ap₂ (λ x y. judge (ofTable table) (touched x y (toks (take (r .used) after))) (toks (take (r .used) after))) (f .place z) (f .come z)
+            ∙ ap (λ l. judge (ofTable table) (touched (spliceAt op place (toks piece) (toks doc)) (length (coming op piece)) (toks l)) (toks l)) (f .tokens z)
 
-      pub edit-done : {after′ : List ℕ} {d : ℤ} → w .number ≡ 0 → after′ ≡ written buf used (take (r .used) after) → d ≡ pos (r .used) -ℤ pos used
-          → outcomeOf (record { number = 0; place = 0; used = r .used; change = d; children = w .children }) after′
-          ≡ outcome buf used (editing (ofTable table) (length buf) q (take used buf))
-      edit-done {after′} {d} h eb ed =
-          let new : List ℕ = edited q (take used buf) in
-          let e : done (made q (take used buf)) ≡ editing (ofTable table) (length buf) q (take used buf) = rw h at editing-is in
-          let b : after′ ≡ written buf used new = eb ∙ ap (written buf used) (f .tokens z) in
-          let n : r .used ≡ length new = f .size z in
-          ap₂ (λ y v. outcomeOf (record { number = 0; place = 0; used = r .used; change = y; children = w .children }) v) ed b
-          ∙ ap₂ (λ k c. outcomeOf (record { number = 0; place = 0; used = k; change = pos k -ℤ pos used; children = c }) (written buf used new)) n (looked-is h)
-          ∙ ap (outcome buf used) e
+        editing-is : answered 0 (w .number, w .place) (made q doc) ≡ made-edit
+        unfolding editing
+        editing-is = ap₂ (λ k a. answered k a (made q doc)) (sym (size-iff (length buf) (length second) q doc .1 (in-form, omega arith))) fault-is
+
+        pub edit-fault : {x : Answer} → (w .number ≡ 0 → ⊥) → x ≡ refusal (w .number) (w .place) used → outcomeOf x buf second ≡ outcome buf used second made-edit
+        edit-fault h e = ap (λ y. outcomeOf y buf second) e ∙ ap (outcome buf used second) (rw (ne-eqb (w .number) 0 h) at editing-is)
+
+        looked-is : w .number ≡ 0 → w .children ≡ lookedAt q doc
+        unfolding lookedAt touchedBy
+        looked-is h =
+            ew .looked h
+            ∙ ap₂ (λ x y. childrenOf (touched x y (toks (take (r .used) after))) 0 (toks (take (r .used) after))) (f .place z) (f .come z)
+            ∙ ap (λ l. childrenOf (touched (spliceAt op place (toks piece) (toks doc)) (length (coming op piece)) (toks l)) 0 (toks l)) (f .tokens z)
+
+        pub edit-done : {x : Answer} {after′ second′ : List ℕ} → w .number ≡ 0 → second′ ≡ noted second (inverse q doc)
+            → after′ ≡ written buf used (take (r .used) after) → x ≡ doneWith used (r .used) (w .children)
+            → outcomeOf x after′ second′ ≡ outcome buf used second made-edit
+        edit-done {x} {after′} {second′} h es eb ex =
+            let new : List ℕ = edited q doc in
+            let e : done (made q doc) ≡ made-edit = rw h at editing-is in
+            ap (λ y. outcomeOf y after′ second′) ex
+            ∙ ap₂ (outcomeOf (doneWith used (r .used) (w .children))) (eb ∙ ap (written buf used) (f .tokens z)) es
+            ∙ ap₂ (λ k c. outcomeOf (doneWith used k c) (written buf used new) (noted second (inverse q doc))) (f .size z) (looked-is h)
+            ∙ ap (outcome buf used second) e
 
   -- ---- the call
 
-  module _ (table : List ℕ) {y : Bool} (ey : y ≡ proper table) where
-    pub edit-table : {x : Answer} → not y ≡ true → x ≡ refusal 13 0 used → outcomeOf x buf ≡ edit table buf used q
+  module _ (table second : List ℕ) {y : Bool} (ey : y ≡ proper table) where
+    pub edit-table : {x : Answer} → not y ≡ true → x ≡ refusal 13 0 used → outcomeOf x buf second ≡ edit table buf used q second
     unfolding edit
-    edit-table h e = rw (← ey, not-true y h) (ap (λ y. outcomeOf y buf) e)
+    edit-table h e = rw (← ey, not-true y h) (ap (λ y. outcomeOf y buf second) e)
 
     module _ (h : not y ≡ false) {z : Bool} (ez : z ≡ shapeOf buf used) where
-      pub edit-shape : {x : Answer} → not z ≡ true → x ≡ refusal 4 0 used → outcomeOf x buf ≡ edit table buf used q
+      pub edit-shape : {x : Answer} → not z ≡ true → x ≡ refusal 4 0 used → outcomeOf x buf second ≡ edit table buf used q second
       unfolding edit editBy
-      edit-shape g e = rw (← ey, not-false y h, ← ez, not-true z g) (ap (λ y. outcomeOf y buf) e)
+      edit-shape g e = rw (← ey, not-false y h, ← ez, not-true z g) (ap (λ y. outcomeOf y buf second) e)
 
-      pub edit-whole : {o : Outcome} → not z ≡ false → o ≡ outcome buf used (editing (ofTable table) (length buf) q (take used buf)) → o ≡ edit table buf used q
+      pub edit-whole : {o : Outcome} → not z ≡ false → o ≡ outcome buf used second (editing (ofTable table) (length buf) (length second) q (take used buf))
+          → o ≡ edit table buf used q second
       unfolding edit editBy
       edit-whole g e = rw (← ey, not-false y h, ← ez, not-false z g) e
 

@@ -2,25 +2,23 @@
 use mathlib.Core.Path.{_≡_, refl, sym, ap, ap₂, _∙_}
 use mathlib.Core.Bool.{Bool, true, false, cond, not, and-false, and-eq-true-iff}
 use mathlib.Core.List.{List}
-use Prim.Native.Nat.{ℕ, suc, _+_, _≤_, _<_}
+use Prim.Native.Nat.{ℕ, _+_, _≤_, _<_}
 use native.Mathlib.Omega.{arith}
 use borrow.Author.Tests.{le-leb, lt-leb, leb-true, not-true, not-false}
 use lib.Dec.{leb}
-use lib.ListN.{length, take, drop, length-map, length-drop}
+use lib.ListN.{length, take, length-map}
 use lib.Seq.{take-take}
 use Rattle.basic_laws.specs.Bools.{clash}
 use Rattle.paper.specs.declared.Tok.{Tok}
 use Rattle.paper.specs.Basics.{mostTokens, mostDeep, between}
-use Rattle.paper.specs.Tokens.{toks, tokOf, itemSize, deep}
-use Rattle.paper.specs.Shape.{isElement, shallow, shapeOf}
-use Rattle.paper.specs.Edits.{Request, attrAt, attrCut, goodPiece, goodPlace, spliceAt, spliceCut, coming, splice, edited, fits, formFault}
+use Rattle.paper.specs.Tokens.{toks, tokOf, deep}
+use Rattle.paper.specs.Shape.{shallow, shapeOf}
+use Rattle.paper.specs.Edits.{Request, goodPiece, goodPlace, spliceAt, spliceCut, coming, splice, edited, fits, formFault}
 use Rattle.shape_laws.specs.Bridge.{length-toks, toks-take}
-use Rattle.shape_laws.specs.Keep.{Cut, element-parts}
-use Rattle.shape_laws.specs.Splice.{cut-item}
-use Rattle.shape_laws.specs.Attrs.{attr-rest}
 use Rattle.shape_laws.specs.Depth.{openIn}
-use Rattle.shape_laws.specs.Five.{Allowed, insert, remove, replace, replace-root, attribute, five-deep, place-deep}
+use Rattle.shape_laws.specs.Five.{Allowed, allowed-within, five-deep, place-deep}
 use Rattle.shape_laws.specs.EditJudged.{allowed-by, coming-toks, edited-toks}
+use Rattle.shape_laws.specs.Shaped.{shaped}
 use Rattle.plans.specs.declared.Plan.{Plan}
 use Rattle.form.specs.declared.Form.{Form}
 use Rattle.plans.specs.Plan.{planned, planOf}
@@ -33,34 +31,6 @@ pub record Formed (room : ℕ) (q : Request) (doc : List ℕ) (r : Form) (after 
   pub come : r .number ≡ 0 → r .coming ≡ length (coming (q .operation) (q .piece))
   pub size : r .number ≡ 0 → r .used ≡ length (edited q doc)
   pub tokens : r .number ≡ 0 → take (r .used) after ≡ edited q doc
-
-cut-within : (d : List Tok) (at n : ℕ) → Cut n (drop (suc at) d) → suc at + n ≤ length d
-cut-within d at n c = omega (arith, ap length (c .splits), length-drop n (drop (suc at) d), length-drop (suc at) d)
-
--- an allowed edit lies in the document
-pub allowed-within : (d : List Tok) → isElement d ≡ true → {at n : ℕ} {piece : List Tok} → Allowed d at n piece → at + n ≤ length d
-allowed-within d e (insert at t x s c w) = omega (arith, ap length s, length-drop (suc at) d)
-allowed-within d e (remove at h) = cut-within d at (itemSize (drop (suc at) d)) (cut-item d at e h)
-allowed-within d e (replace at h w) = cut-within d at (itemSize (drop (suc at) d)) (cut-item d at e h)
-allowed-within d e (replace-root f) = omega arith
-allowed-within d e (attribute a p s put) = omega (arith, attr-rest a p d (element-parts d e .2) s, length-drop (attrAt a p d + attrCut a p d) d)
-
--- a document with shape
-pub record Shaped (buf : List ℕ) (used : ℕ) : Type 0 where
-  pub few : used ≤ mostTokens
-  pub long : used ≤ length buf
-  pub one : isElement (toks (take used buf)) ≡ true
-  pub low : deep 0 (toks (take used buf)) ≤ mostDeep
-
-pub shaped : (buf : List ℕ) (used : ℕ) → shapeOf buf used ≡ true → Shaped buf used
-unfolding shapeOf
-shaped buf used e =
-    let d : List Tok = toks (take used buf) in
-    let (s, low) = and-eq-true-iff _ (shallow d) .0 e in
-    let (s, one) = and-eq-true-iff _ (isElement d) .0 s in
-    let (s, long) = and-eq-true-iff _ (leb used (length buf)) .0 s in
-    let (_, few) = and-eq-true-iff (leb 2 used) (leb used mostTokens) .0 s in
-    record { few = leb-true used mostTokens few; long = leb-true used (length buf) long; one = one; low = leb-true (deep 0 d) mostDeep low }
 
 pub shaped-few : (buf : List ℕ) (used : ℕ) → shapeOf buf used ≡ true → used ≤ mostTokens
 shaped-few buf used e = shaped buf used e .few

@@ -12,6 +12,10 @@ use lib.ListN.{length, replicate}
 abbrev pub mostTokens : ℕ
 mostTokens = 8192
 
+-- Item 2: "operation, place, piece count and piece": the most numbers of an edit
+abbrev pub mostBack : ℕ
+mostBack = 8195
+
 -- "at most 64 deep with the root at 1"
 abbrev pub mostDeep : ℕ
 mostDeep = 64

@@ -26,9 +26,9 @@ Translates file table o = o ≡ translate file table
 abbrev pub Checks : (table buffer : List ℕ) → (used : ℕ) → Answer → Type 0
 Checks table buffer used o = o ≡ check table buffer used
 
--- the edit: number, place, used length, change in length, and the buffer
-abbrev pub Performs : (table buffer : List ℕ) → (used : ℕ) → Request → Outcome → Type 0
-Performs table buffer used q o = o ≡ edit table buffer used q
+-- the edit: number, place, used length, change in length, children looked at, the buffer and the second one
+abbrev pub Performs : (table buffer : List ℕ) → (used : ℕ) → Request → (second : List ℕ) → Outcome → Type 0
+Performs table buffer used q second o = o ≡ edit table buffer used q second
 
 -- the comparison: number, 1 for yes, length of the sequence that is lost, and the sequence buffer
 abbrev pub Compares : (old new : List ℕ) → (element : ℕ) → (buffer : List ℕ) → Compared → Type 0

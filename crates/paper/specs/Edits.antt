@@ -1,146 +1,21 @@
--- "The five edits". Assumes nothing.
-use mathlib.Core.Bool.{Bool, true, false, cond, not, _&&_, _||_}
+-- "The five edits": when an edit is refused, and what it leaves. Assumes nothing.
+use mathlib.Core.Bool.{Bool, cond, _&&_}
 use mathlib.Core.List.{List, [], _∷_, _++_}
 use Prim.Native.Nat.{ℕ, zero, suc, _+_, _-_, max}
-use lib.Dec.{leb, ltb, eqb}
+use lib.Dec.{leb, eqb}
 use lib.ListN.{length, take, drop, replicate}
 use lib.IntN.{ℤ, pos, _-ℤ_}
 use Rattle.paper.specs.declared.Tok.{Tok}
-use Rattle.paper.specs.declared.Tok.the-variants.{Start, End, Text, Attr, Value, Bad}
-use Rattle.paper.specs.Basics.{mostTokens, between, null}
-use Rattle.paper.specs.Tokens.{toks, kids, starts, isStart, itemSize, values, slot, held, touched}
-use Rattle.paper.specs.Shape.{isElement, shallow, shapeOf}
+use Rattle.paper.specs.Basics.{mostTokens, between}
+use Rattle.paper.specs.Tokens.{toks, starts, kids}
+use Rattle.paper.specs.Shape.{shallow, shapeOf}
 use Rattle.paper.specs.Table.{proper}
 use Rattle.paper.specs.Rules.{Rules, ofTable}
 use Rattle.paper.specs.Judgement.{Answer, judge}
-
--- "An edit is an operation, a place and a piece." 1 insert, 2 remove, 3 replace, 4 set, 5 drop
-pub record Request : Type 0 where
-  pub operation : ℕ
-  pub place : ℕ
-  pub piece : List ℕ
-
--- one of five by the operation
-module _ {A : Type 0} where
-  abbrev pub byOperation : ℕ → A → A → A → A → A → A
-  byOperation op insert remove replace set drop =
-      cond (eqb op 1) insert (cond (eqb op 2) remove (cond (eqb op 3) replace (cond (eqb op 4) set drop)))
-
--- ---- the piece (4)
-
-abbrev pub isText : List Tok → Bool
-isText [] = false
-isText (Text n ∷ p) = null p
-isText (Start n ∷ p) = false
-isText (End ∷ p) = false
-isText (Attr n ∷ p) = false
-isText (Value n ∷ p) = false
-isText (Bad ∷ p) = false
-
--- "one element of good shape or one text"; "over 64 deep by itself, is bad"
-abbrev pub goodItem : List Tok → Bool
-goodItem p = isText p || (isElement p && shallow p)
-
--- the attribute that begins the piece, and what follows it satisfies P
-abbrev pub attrWith : (List Tok → Bool) → List Tok → Bool
-attrWith P [] = false
-attrWith P (Attr a ∷ p) = P p
-attrWith P (Start n ∷ p) = false
-attrWith P (End ∷ p) = false
-attrWith P (Text n ∷ p) = false
-attrWith P (Value n ∷ p) = false
-attrWith P (Bad ∷ p) = false
-
--- one or more values, and nothing else
-abbrev pub someValues : List Tok → Bool
-someValues p = not (null p) && eqb (values p) (length p)
-
--- "A piece over 8,192 tokens [..] is bad (4)." insert, replace: one element or one text; "remove: empty piece"; "set: the piece is
--- an attribute and one or more values"; "drop: the piece is one attribute token"
-unfoldable pub goodPiece : ℕ → List Tok → Bool
-goodPiece op p = leb (length p) mostTokens && byOperation op (goodItem p) (null p) (goodItem p) (attrWith someValues p) (attrWith null p)
-
--- ---- the place (6)
-
-abbrev pub opens : Tok → Bool
-opens (Start n) = true
-opens (Text n) = true
-opens End = false
-opens (Attr n) = false
-opens (Value n) = false
-opens Bad = false
-
-abbrev pub opensOrEnds : Tok → Bool
-opensOrEnds (Start n) = true
-opensOrEnds (Text n) = true
-opensOrEnds End = true
-opensOrEnds (Attr n) = false
-opensOrEnds (Value n) = false
-opensOrEnds Bad = false
-
--- P holds of the token that begins d
-abbrev pub atHead : (Tok → Bool) → List Tok → Bool
-atHead P [] = false
-atHead P (t ∷ d) = P t
-
--- the attribute number of a piece
-abbrev pub attrNumber : List Tok → ℕ
-attrNumber [] = 0
-attrNumber (Attr a ∷ p) = a
-attrNumber (Start n ∷ p) = 0
-attrNumber (End ∷ p) = 0
-attrNumber (Text n ∷ p) = 0
-attrNumber (Value n ∷ p) = 0
-attrNumber (Bad ∷ p) = 0
-
--- where the attribute a of the element that starts at place is or would be, and how many tokens it has there
-abbrev pub attrAt : ℕ → ℕ → List Tok → ℕ
-attrAt a place d = suc place + slot a (drop (suc place) d)
-
-abbrev pub attrCut : ℕ → ℕ → List Tok → ℕ
-attrCut a place d = held a (drop (slot a (drop (suc place) d)) (drop (suc place) d))
-
--- insert: "That token is a start, a text or an end, and the place is not 0." remove: "the token is a start or a text, not at
--- place 0". replace: "the token is a start or text; at place 0 a text as piece is 6". set: "the token is a start". drop: "the
--- place is a start that has that attribute (else 6)". No token stands at the length or past it.
-unfoldable pub goodPlace : ℕ → ℕ → List Tok → List Tok → Bool
-goodPlace op place p d =
-    byOperation op
-    (atHead opensOrEnds (drop place d) && ltb 0 place)
-    (atHead opens (drop place d) && ltb 0 place)
-    (atHead opens (drop place d) && (ltb 0 place || not (isText p)))
-    (isStart (drop place d))
-    (isStart (drop place d) && ltb 0 (attrCut (attrNumber p) place d))
-
--- ---- the edit as one splice: at a place a count of tokens goes, and tokens come
-
-abbrev pub spliceAt : ℕ → ℕ → List Tok → List Tok → ℕ
-spliceAt op place p d = byOperation op place place place (attrAt (attrNumber p) place d) (attrAt (attrNumber p) place d)
-
-abbrev pub spliceCut : ℕ → ℕ → List Tok → List Tok → ℕ
-spliceCut op place p d =
-    byOperation op 0 (itemSize (drop place d)) (itemSize (drop place d)) (attrCut (attrNumber p) place d) (attrCut (attrNumber p) place d)
-
-module _ {A : Type 0} where
-  -- "set: [..] the attribute is added or its values replaced"; "drop: [..] it goes with its values"; "remove: [..] the whole
-  -- element or the text goes"
-  abbrev pub coming : ℕ → List A → List A
-  coming op p = byOperation op p [] p p []
-
-  abbrev pub splice : ℕ → ℕ → List A → List A → List A
-  splice at n p d = take at d ++ (p ++ drop (at + n) d)
-
--- the edited document
-unfoldable pub edited : Request → List ℕ → List ℕ
-edited q doc =
-    splice (spliceAt (q .operation) (q .place) (toks (q .piece)) (toks doc)) (spliceCut (q .operation) (q .place) (toks (q .piece)) (toks doc))
-    (coming (q .operation) (q .piece)) doc
-
--- "7, 8 and 9 only at touched elements: the parent (for set and drop, the element itself) and all elements of the piece. Places
--- are those of the edited document."
-unfoldable pub touchedBy : Request → List ℕ → ℕ → Bool
-touchedBy q doc =
-    touched (spliceAt (q .operation) (q .place) (toks (q .piece)) (toks doc)) (length (coming (q .operation) (q .piece))) (toks (edited q doc))
+use Rattle.paper.specs.Back.{inverse, needs, noted}
+-- what an edit is stands there, and is passed on
+pub use Rattle.paper.specs.Requests.{Request, byOperation, isText, goodItem, attrWith, someValues, opens, opensOrEnds, atHead, attrNumber, attrAt, attrCut, spliceAt, spliceCut, coming, splice}
+unfoldable pub use Rattle.paper.specs.Requests.{goodPiece, goodPlace, edited, touchedBy}
 
 -- ---- the children looked at
 
@@ -163,9 +38,11 @@ pub record Made : Type 0 where
   pub tokens : List ℕ
   -- Item 10: "A done edit reports the number of children looked at"
   pub children : ℕ
+  -- Item 2: "Each done edit also writes [..] the edit that takes it back"
+  pub back : Request
 
 abbrev pub made : Request → List ℕ → Made
-made q doc = record { tokens = edited q doc; children = lookedAt q doc }
+made q doc = record { tokens = edited q doc; children = lookedAt q doc; back = inverse q doc }
 
 pub data Edited : Type 0 where
   -- number and place
@@ -188,17 +65,27 @@ formFault room q doc =
     4)
     6
 
--- the first fault, of form or of the judgement; else the edit is done
+-- the first of two faults
+abbrev pub orNext : ℕ → ℕ → ℕ
+orNext zero n = n
+orNext (suc k) n = suc k
+
+-- Item 2: "second buffer shorter than the inverse needs is 5, after document 01's own 5 and before judgement": `second` is how many places
+-- it has
+unfoldable pub sizeFault : (room second : ℕ) → Request → List ℕ → ℕ
+sizeFault room second q doc = orNext (formFault room q doc) (cond (leb (needs q doc) second) 0 5)
+
+-- the first fault, of form and size or of the judgement; else the edit is done
 abbrev pub answered : ℕ → Answer → Made → Edited
 answered zero a m = cond (eqb (a .0) 0) (done m) (refused (a .0) (a .1))
 answered (suc n) a m = refused (suc n) 0
 
 -- "Then the edited document is judged as above"
-unfoldable pub editing : Rules → ℕ → Request → List ℕ → Edited
-editing R room q doc = answered (formFault room q doc) (judge R (touchedBy q doc) (toks (edited q doc))) (made q doc)
+unfoldable pub editing : Rules → (room second : ℕ) → Request → List ℕ → Edited
+editing R room second q doc = answered (sizeFault room second q doc) (judge R (touchedBy q doc) (toks (edited q doc))) (made q doc)
 
 -- "The answer has number, place, used length, and the change in length, a signed count that is negative when tokens went."
--- With them, the children looked at, and every place of the buffer.
+-- With them, the children looked at, and every place of the buffer and of the second one.
 pub record Outcome : Type 0 where
   pub number : ℕ
   pub place : ℕ
@@ -206,26 +93,29 @@ pub record Outcome : Type 0 where
   pub change : ℤ
   pub children : ℕ
   pub buffer : List ℕ
+  pub back : List ℕ
 
 -- "Done: places from the new length to the old hold 0, later ones are untouched."
 abbrev pub written : List ℕ → ℕ → List ℕ → List ℕ
 written buffer used new = new ++ (replicate (used - length new) 0 ++ drop (max used (length new)) buffer)
 
 -- "Refusals leave everything lent as it was; an edit's gives the old length and change 0." Item 10: "Refused edits report 0."
-abbrev pub outcome : List ℕ → ℕ → Edited → Outcome
-outcome buffer used (refused n p) = record { number = n; place = p; used = used; change = pos 0; children = 0; buffer = buffer }
-outcome buffer used (done m) = record {
+abbrev pub outcome : (buffer : List ℕ) → (used : ℕ) → (second : List ℕ) → Edited → Outcome
+outcome buffer used second (refused n p) =
+    record { number = n; place = p; used = used; change = pos 0; children = 0; buffer = buffer; back = second }
+outcome buffer used second (done m) = record {
   number = 0;
   place = 0;
   used = length (m .tokens);
   change = pos (length (m .tokens)) -ℤ pos used;
   children = m .children;
   buffer = written buffer used (m .tokens);
+  back = noted second (m .back);
 }
 
 -- "Order: table (13); document shape (4); [the rest]"
-unfoldable pub editBy : Rules → (buffer : List ℕ) → (used : ℕ) → Request → Edited
-editBy R buffer used q = cond (shapeOf buffer used) (editing R (length buffer) q (take used buffer)) (refused 4 0)
+unfoldable pub editBy : Rules → (buffer : List ℕ) → (used : ℕ) → Request → (second : List ℕ) → Edited
+editBy R buffer used q second = cond (shapeOf buffer used) (editing R (length buffer) (length second) q (take used buffer)) (refused 4 0)
 
-unfoldable pub edit : (table buffer : List ℕ) → (used : ℕ) → Request → Outcome
-edit table buffer used q = outcome buffer used (cond (proper table) (editBy (ofTable table) buffer used q) (refused 13 0))
+unfoldable pub edit : (table buffer : List ℕ) → (used : ℕ) → Request → (second : List ℕ) → Outcome
+edit table buffer used q second = outcome buffer used second (cond (proper table) (editBy (ofTable table) buffer used q second) (refused 13 0))

@@ -16,7 +16,7 @@ use Rattle.paper.specs.Dtd.Imported.{import, names, spot}
 use Rattle.paper.specs.Answers.{readerAnswers, writerAnswers, translatorAnswers, checkAnswers, editAnswers, compareAnswers}
 use Rattle.paper.specs.Answers.{importAnswers, namesAnswers, spotAnswers}
 use Rattle.paper.specs.Open.{all-open}
-use Rattle.paper.specs.SmallShade.{shadeWith, shade, small}
+use Rattle.paper.specs.SmallShade.{shadeWith, shade, small, second}
 
 -- nothing; a number that goes on; a token for which there is no place
 pub reader-gives : map (λ file. read file [] .number) ([] ∷ (128 ∷ []) ∷ (1 ∷ []) ∷ []) ≡ readerAnswers
@@ -73,7 +73,7 @@ pub record Asked : Type 0 where
 abbrev asks : (table doc : List ℕ) → ℕ → ℕ → List ℕ → Asked
 asks table doc op at piece = record { table = table; doc = doc; request = record { operation = op; place = at; piece = piece } }
 
--- Buffers that the document fills. The use removed; no tokens; a panel for which there is no room; no operation; "an edit under [..]
+-- Buffers that the document fills, and second buffers with room. The use removed; no tokens; a panel for which there is no room; no operation; "an edit under [..]
 -- an undeclared element of an invalid document"; an ID dropped; the only panel removed; a panel as root; one ID twice; a reference to
 -- none; no table
 abbrev pub requests : List Asked
@@ -91,7 +91,7 @@ requests =
     ∷ asks [] small 2 10 []
     ∷ []
 
-pub edit-gives : map (λ (x : Asked). edit (x .table) (x .doc) (length (x .doc)) (x .request) .number) requests ≡ editAnswers
+pub edit-gives : map (λ (x : Asked). edit (x .table) (x .doc) (length (x .doc)) (x .request) second .number) requests ≡ editAnswers
 unfolding all-open
 edit-gives = refl
 

@@ -20,7 +20,9 @@ pub mod Trees
 pub mod Rules
 pub mod Judgement
 pub mod Validity
--- "The five edits"
+-- "The five edits", and item 2's edit that takes an edit back
+pub mod Requests
+pub mod Back
 pub mod Edits
 pub mod TreeEdits
 -- Item 4: DTD text
@@ -35,5 +37,6 @@ pub mod Program
 pub mod Open
 pub mod SmallShade
 pub mod Given
--- Item 12, by computing
+-- Items 2 and 12, by computing
+pub mod BackExamples
 pub mod InclusionExamples

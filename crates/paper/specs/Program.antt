@@ -5,7 +5,7 @@ use mathlib.Core.List.{List, [], _∷_, _++_, map}
 use Prim.Native.Nat.{ℕ, zero, suc, _+_, _/_, _%_}
 use lib.Dec.{leb, ltb, eqb}
 use lib.ListN.{length, replicate}
-use Rattle.paper.specs.Basics.{mostTokens, mostFile, concat}
+use Rattle.paper.specs.Basics.{mostTokens, mostBack, mostFile, concat}
 use Rattle.paper.specs.Files.{largest, Result, refused, made, Counted, counted, reading}
 use Rattle.paper.specs.Schema.{Schema, Parsed, stop, ok, Reader, pure, refuse, _>>=_, number, numbers, schemaOf}
 use Rattle.paper.specs.Rules.{Rules, ofSchema}
@@ -27,6 +27,10 @@ request = do
   piece ← cond (leb n mostTokens) (numbers n 0 largest) (refuse 5)
   pure (record { operation = op; place = place; piece = piece })
 
+-- Item 2: each edit is lent a second buffer, of as many places as an inverse can need
+abbrev pub second : List ℕ
+second = replicate mostBack 0
+
 -- "one for each edit, from 1": the lines of the edits in the bytes s. An edit is one byte or more, so `bytes`, the file's
 -- length, is never too small a bound on their number.
 abbrev pub editLines : (bytes : ℕ) → Rules → (k : ℕ) → (buffer : List ℕ) → (used : ℕ) → List ℕ → List Line
@@ -35,7 +39,7 @@ editLines (suc bytes) R k buffer used [] = []
 editLines (suc bytes) R k buffer used (b ∷ s) = elim (request (b ∷ s)) [
   | stop n ↦ halt n ∷ []
   | ok q r ↦
-      let o : Outcome = outcome buffer used (editBy R buffer used q) in
+      let o : Outcome = outcome buffer used second (editBy R buffer used q second) in
       line k (o .number) (o .place) (o .used) ∷ editLines bytes R (suc k) (o .buffer) (o .used) r
 ]
 

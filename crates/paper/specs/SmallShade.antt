@@ -12,6 +12,7 @@ use Rattle.paper.specs.Schema.{Schema, Parsed, stop, ok, schemaOf}
 use Rattle.paper.specs.Table.{tableOf}
 use Rattle.paper.specs.Rules.{ofSchema}
 use Rattle.paper.specs.Judgement.{Answer, checking, check}
+use Rattle.paper.specs.Edits.{Request, outcome, editBy, edit}
 use Rattle.paper.specs.Open.{all-open}
 
 -- "Schema numbers: `4 0  2 5 0 4 6 3 8 1 0 0 0  2 2 3 7 1 1 1 0  1 0  0 1 2 2 0`." Here with any symbols for the shade's model.
@@ -33,6 +34,10 @@ small = 1 ∷ 4 ∷ 61 ∷ 9 ∷ 12 ∷ 165 ∷ 17 ∷ 243 ∷ 2 ∷ 2 ∷ 25 �
 -- the document in a buffer of 20 places, the last five of them 7
 abbrev pub buffer : List ℕ
 buffer = small ++ (7 ∷ 7 ∷ 7 ∷ 7 ∷ 7 ∷ [])
+
+-- a second buffer of 20 places that hold 7
+abbrev pub second : List ℕ
+second = replicate 20 7
 
 abbrev pub sameAnswer : ℕ → ℕ → Answer → Bool
 sameAnswer n p a = eqb (a .0) n && eqb (a .1) p
@@ -93,7 +98,7 @@ all-stop = refl
 abbrev pub costs : Parsed Schema → (Request × ℕ) → Bool
 costs (stop k) x = false
 costs (ok s r) x =
-    eqb (outcome buffer 15 (editBy (ofSchema s) buffer 15 (x .0)) .children) (x .1) && eqb (edit (tableOf s) buffer 15 (x .0) .children) (x .1)
+    eqb (outcome buffer 15 second (editBy (ofSchema s) buffer 15 (x .0) second) .children) (x .1) && eqb (edit (tableOf s) buffer 15 (x .0) second .children) (x .1)
 
 -- The use goes: the shade is left with a panel. The row's text goes: nothing is left in it; another comes: the text alone, which has none of
 -- its own. A panel comes, with nothing in it; the panel is replaced by one with a row that has a text. The shade is replaced by itself: it has

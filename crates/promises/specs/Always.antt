@@ -1,6 +1,6 @@
 -- What holds of every outcome of the paper's calls, whatever the input: two are equal; a refusal leaves everything lent as it was; a
 -- done edit leaves the edited document. Assumes nothing.
-use mathlib.Core.Path.{_≡_, refl, sym, _∙_}
+use mathlib.Core.Path.{_≡_, refl, sym, subst, _∙_}
 use mathlib.Core.Logic.{_≢_}
 use mathlib.Core.Bool.{Bool, true, false, cond}
 use mathlib.Core.List.{List}
@@ -16,12 +16,14 @@ use Rattle.paper.specs.Table.{tableLength, translated, translate, proper}
 use Rattle.paper.specs.Shape.{shapeOf}
 use Rattle.paper.specs.Rules.{Rules, ofTable}
 use Rattle.paper.specs.Judgement.{Answer, judge}
-use Rattle.paper.specs.Edits.{Request, Outcome, Edited, refused as rejected, done, outcome, Made, made as paper-made, touchedBy, formFault, answered, editing, editBy, written, edit}
+use Rattle.paper.specs.Edits.{Request, Outcome, Edited, refused as rejected, done, outcome, Made, made as paper-made, touchedBy, sizeFault, answered, editing, editBy, written, edit}
 use Rattle.paper.specs.Tokens.{toks}
+use Rattle.paper.specs.Back.{noted}
 use Rattle.paper.specs.Dtd.Numbering.{namesOf}
 use Rattle.paper.specs.Dtd.Imported.{declared, worded, schemaFile, import, names}
 use Rattle.promises.specs.Calls.{papers}
-use Rattle.promises.specs.Statements.{ReadDeterminate, WriteDeterminate, TranslateDeterminate, CheckDeterminate, EditDeterminate, ReadKeeps, WriteKeeps, TranslateKeeps, Kept, EditKeeps, Left, EditLeaves}
+use Rattle.promises.specs.Right.{Kept, Left}
+use Rattle.promises.specs.Statements.{ReadDeterminate, WriteDeterminate, TranslateDeterminate, CheckDeterminate, EditDeterminate, ReadKeeps, WriteKeeps, TranslateKeeps, EditKeeps, EditLeaves}
 use Rattle.promises.specs.Dtd.{ImportKeeps, NamesKeeps}
 
 -- ---- one outcome for one input
@@ -89,37 +91,38 @@ answered-settled zero a m = go (eqb (a .0) 0) refl
     go false e = eqb-false (a .0) 0 e
 answered-settled (suc n) a m = λ z. absurd (omega arith)
 
-module _ (table buffer : List ℕ) (used : ℕ) (q : Request) where
+module _ (table buffer : List ℕ) (used : ℕ) (q : Request) (second : List ℕ) where
   abbrev new : Made
   new = paper-made q (take used buffer)
 
-  by-shape : (R : Rules) (b : Bool) → Settled new (cond b (editing R (length buffer) q (take used buffer)) (rejected 4 0))
+  by-shape : (R : Rules) (b : Bool) → Settled new (cond b (editing R (length buffer) (length second) q (take used buffer)) (rejected 4 0))
   unfolding editing
-  by-shape R true = answered-settled (formFault (length buffer) q (take used buffer)) (judge R (touchedBy q (take used buffer)) (toks (new .tokens))) new
+  by-shape R true = answered-settled (sizeFault (length buffer) (length second) q (take used buffer)) (judge R (touchedBy q (take used buffer)) (toks (new .tokens))) new
   by-shape R false = λ z. absurd (omega arith)
 
-  by-table : (b : Bool) → Settled new (cond b (editBy (ofTable table) buffer used q) (rejected 13 0))
+  by-table : (b : Bool) → Settled new (cond b (editBy (ofTable table) buffer used q second) (rejected 13 0))
   unfolding editBy
   by-table true = by-shape (ofTable table) (shapeOf buffer used)
   by-table false = λ z. absurd (omega arith)
 
-  outcome-keeps : (x : Edited) → Settled new x → (o : Outcome) → o ≡ outcome buffer used x → o .number ≢ 0 → Kept buffer used o
-  outcome-keeps (rejected n p) s o e d = (cc, cc, cc, cc)
+  outcome-keeps : (x : Edited) → Settled new x → (o : Outcome) → o ≡ outcome buffer used second x → o .number ≢ 0 → Kept buffer used second o
+  outcome-keeps (rejected n p) s o e d = (cc, cc, cc, cc, cc)
   outcome-keeps (done m) s o e d = absurd (d (cc))
 
-  outcome-leaves : (x : Edited) → Settled new x → (o : Outcome) → o ≡ outcome buffer used x → o .number ≡ 0 → Left buffer used q o
+  outcome-leaves : (x : Edited) → Settled new x → (o : Outcome) → o ≡ outcome buffer used second x → o .number ≡ 0 → Left buffer used q second o
   outcome-leaves (rejected n p) s o e z = absurd (s (cc))
   outcome-leaves (done m) s o e z =
-      let l : List ℕ = m .tokens in
-      let at-m : (o .place ≡ 0) × (o .used ≡ length l) × (o .change ≡ pos (length l) -ℤ pos used) × (o .buffer ≡ written buffer used l) × (o .children ≡ m .children) = (cc, cc, cc, cc, cc) in
-      rw s at at-m
+      subst
+      (λ (x : Made). (o .place ≡ 0) × (o .used ≡ length (x .tokens)) × (o .change ≡ pos (length (x .tokens)) -ℤ pos used) × (o .buffer ≡ written buffer used (x .tokens))
+      × (o .children ≡ x .children) × (o .back ≡ noted second (x .back)))
+      s (cc, cc, cc, cc, cc, cc)
 
 pub edit-keeps : EditKeeps papers
 unfolding edit
-edit-keeps table buffer used q o e d =
-    outcome-keeps table buffer used q (cond (proper table) (editBy (ofTable table) buffer used q) (rejected 13 0)) (by-table table buffer used q (proper table)) o e d
+edit-keeps table buffer used q second o e d =
+    outcome-keeps table buffer used q second (cond (proper table) (editBy (ofTable table) buffer used q second) (rejected 13 0)) (by-table table buffer used q second (proper table)) o e d
 
 pub edit-leaves : EditLeaves papers
 unfolding edit
-edit-leaves table buffer used q o e z =
-    outcome-leaves table buffer used q (cond (proper table) (editBy (ofTable table) buffer used q) (rejected 13 0)) (by-table table buffer used q (proper table)) o e z
+edit-leaves table buffer used q second o e z =
+    outcome-leaves table buffer used q second (cond (proper table) (editBy (ofTable table) buffer used q second) (rejected 13 0)) (by-table table buffer used q second (proper table)) o e z

@@ -23,8 +23,9 @@ module _ (s : Schema) (table : List ℕ) (t : Translated papers s table) where
       go true e = ap (λ (x : ℕ × List ℕ). x .1) (e ∙ ap (λ p. translated p (t .lent)) (t .reads))
       go false e = let z : _≡_ {A = ℕ} 0 13 = ap (λ (x : ℕ × List ℕ). x .0) e in absurd (omega arith)
 
-  pub edit-judged : (buffer : List ℕ) (used : ℕ) (q : Request) → edit table buffer used q ≡ outcome buffer used (editBy (ofSchema s) buffer used q)
-  edit-judged buffer used q = rw its-table (edit-by-expressions (t .file) (t .reads) buffer used q)
+  pub edit-judged : (buffer : List ℕ) (used : ℕ) (q : Request) (second : List ℕ)
+      → edit table buffer used q second ≡ outcome buffer used second (editBy (ofSchema s) buffer used q second)
+  edit-judged buffer used q second = rw its-table (edit-by-expressions (t .file) (t .reads) buffer used q second)
 
 pub table-proper : TableProper papers
 table-proper s table t = rw (its-table s table t) (file-proper (t .file) (t .reads))

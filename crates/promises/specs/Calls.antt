@@ -14,7 +14,7 @@ pub record Calls : Type 1 where
   pub Writes : (tokens buffer : List ℕ) → Counted → Type 0
   pub Translates : (file table : List ℕ) → ℕ × List ℕ → Type 0
   pub Checks : (table buffer : List ℕ) → (used : ℕ) → Answer → Type 0
-  pub Performs : (table buffer : List ℕ) → (used : ℕ) → Request → Outcome → Type 0
+  pub Performs : (table buffer : List ℕ) → (used : ℕ) → Request → (second : List ℕ) → Outcome → Type 0
   pub Compares : (old new : List ℕ) → (element : ℕ) → (buffer : List ℕ) → Compared → Type 0
   pub Imports : (text buffer : List ℕ) → Counted → Type 0
   pub Names : (text buffer : List ℕ) → Counted → Type 0
@@ -40,7 +40,7 @@ pub record Faithful (calls : Calls) : Type 0 where
   pub writes : (tokens buffer : List ℕ) (o : Counted) → calls .Writes tokens buffer o → paper.Writes tokens buffer o
   pub translates : (file table : List ℕ) (o : ℕ × List ℕ) → calls .Translates file table o → paper.Translates file table o
   pub checks : (table buffer : List ℕ) (used : ℕ) (o : Answer) → calls .Checks table buffer used o → paper.Checks table buffer used o
-  pub performs : (table buffer : List ℕ) (used : ℕ) (q : Request) (o : Outcome) → calls .Performs table buffer used q o → paper.Performs table buffer used q o
+  pub performs : (table buffer : List ℕ) (used : ℕ) (q : Request) (second : List ℕ) (o : Outcome) → calls .Performs table buffer used q second o → paper.Performs table buffer used q second o
   pub compares : (old new : List ℕ) (e : ℕ) (buffer : List ℕ) (o : Compared) → calls .Compares old new e buffer o → paper.Compares old new e buffer o
   pub imports : (text buffer : List ℕ) (o : Counted) → calls .Imports text buffer o → paper.Imports text buffer o
   pub names : (text buffer : List ℕ) (o : Counted) → calls .Names text buffer o → paper.Names text buffer o
@@ -52,7 +52,7 @@ papers-faithful = record {
   writes = λ tokens buffer o w. w;
   translates = λ file table o t. t;
   checks = λ table buffer used o c. c;
-  performs = λ table buffer used q o p. p;
+  performs = λ table buffer used q second o p. p;
   compares = λ old new e buffer o c. c;
   imports = λ text buffer o i. i;
   names = λ text buffer o n. n;

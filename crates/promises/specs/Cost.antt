@@ -19,5 +19,5 @@ module _ (calls : Calls) where
 
   -- "It is never above the first of these plus the piece's tokens."
   abbrev pub EditCostBounded : Type 0
-  EditCostBounded = (table buffer : List ℕ) (used : ℕ) (q : Request) (o : Outcome) → Performs table buffer used q o → o .number ≡ 0
+  EditCostBounded = (table buffer : List ℕ) (used : ℕ) (q : Request) (second : List ℕ) (o : Outcome) → Performs table buffer used q second o → o .number ≡ 0
       → o .children ≤ parentChildren q (take used buffer) + length (q .piece)

@@ -13,7 +13,6 @@ use Rattle.paper.specs.Tokens.{toks}
 use Rattle.paper.specs.Shape.{shapeOf}
 use Rattle.paper.specs.Rules.{elementAt}
 use Rattle.paper.specs.Judgement.{Answer}
-use Rattle.paper.specs.Edits.{Request, Outcome}
 use Rattle.paper.specs.Validity.{ContentValid, ValidDocument}
 use Rattle.paper.specs.Dtd.Letters.{Name, among}
 use Rattle.paper.specs.Dtd.Declarations.{Part, model, Declaration, elementNames}
@@ -31,7 +30,8 @@ use Rattle.dtd_schema_laws.specs.ByText.{number, DeclaredAt}
 use Rattle.dtd_schema_laws.specs.Valid.{ValidByText}
 use Rattle.dtd_stays_laws.specs.Stays.{Settled}
 use Rattle.promises.specs.Calls.{Calls}
-use Rattle.promises.specs.Statements.{Determinate, Translated, Runs, EachRight}
+use Rattle.promises.specs.Statements.{Determinate, Translated, Runs}
+use Rattle.promises.specs.Right.{Step, EachRight}
 
 -- ---- what a text declares
 
@@ -190,4 +190,4 @@ module _ (calls : Calls) where
   abbrev pub Demand3ByText : Type 0
   Demand3ByText = (text table : List ℕ) → Imported text table → (ds : List Declaration) → Declares text ds
       → (buffer : List ℕ) (used : ℕ) → ValidInBuffer ds buffer used
-      → (l : List (Request × Outcome)) → Runs calls table buffer used l → EachRight (schemaFor ds) buffer used l
+      → (l : List Step) → Runs calls table buffer used l → EachRight (schemaFor ds) buffer used l

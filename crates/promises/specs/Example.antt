@@ -7,7 +7,7 @@ use mathlib.Core.Option.{some}
 use Prim.Native.Nat.{ℕ, _<_}
 use borrow.Author.Tests.{ltb-true}
 use lib.Dec.{ltb}
-use lib.ListN.{length, replicate}
+use lib.ListN.{replicate}
 use Rattle.paper.specs.Basics.{all, concat}
 use Rattle.paper.specs.Files.{fileOf}
 use Rattle.paper.specs.Expressions.{name, seq, star, plus}
@@ -15,12 +15,14 @@ use Rattle.paper.specs.Schema.{Schema, empty, text, model}
 use Rattle.paper.specs.Table.{tableLength, tableOf}
 use Rattle.paper.specs.Judgement.{check}
 use Rattle.paper.specs.Validity.{ValidDocument}
+use Rattle.paper.specs.Back.{numbersOf}
 use Rattle.paper.specs.Edits.{Request, Outcome, edit}
 use Rattle.paper.specs.Program.{line, linesOf}
 use Rattle.paper.specs.Open.{all-open}
-use Rattle.paper.specs.SmallShade.{shade, small, buffer}
+use Rattle.paper.specs.SmallShade.{shade, small, buffer, second}
 use Rattle.promises.specs.Calls.{papers, papers-faithful}
-use Rattle.promises.specs.Statements.{Translated, Runs, EachRight}
+use Rattle.promises.specs.Right.{Step, EachRight}
+use Rattle.promises.specs.Statements.{Translated, Runs}
 use Rattle.promises.specs.Theorems.{check-valid, demand-3}
 
 -- ---- schema, document, edits
@@ -74,18 +76,18 @@ checked = refl
 pub valid : ValidDocument schema buffer 15
 valid = check-valid papers papers-faithful schema (tableOf schema) translated buffer 15 (0, 0) checked .0 refl
 
--- the edits, each made on what the one before left
-abbrev pub made : (table buffer : List ℕ) → (used : ℕ) → List Request → List (Request × Outcome)
+-- the edits, each made on what the one before left, and lent a second buffer
+abbrev pub made : (table buffer : List ℕ) → (used : ℕ) → List Request → List Step
 made table buffer used [] = []
 made table buffer used (q ∷ l) =
-    let o : Outcome = edit table buffer used q in
-    (q, o) ∷ made table (o .buffer) (o .used) l
+    let o : Outcome = edit table buffer used q second in
+    record { asked = q; lent = second; came = o } ∷ made table (o .buffer) (o .used) l
 
 runs : (table buffer : List ℕ) (used : ℕ) (l : List Request) → Runs papers table buffer used (made table buffer used l)
 runs table buffer used [] = tt
-runs table buffer used (q ∷ l) = let o : Outcome = edit table buffer used q in (refl, runs table (o .buffer) (o .used) l)
+runs table buffer used (q ∷ l) = let o : Outcome = edit table buffer used q second in (refl, runs table (o .buffer) (o .used) l)
 
-abbrev pub run : List (Request × Outcome)
+abbrev pub run : List Step
 run = made (tableOf schema) buffer 15 requests
 
 -- ---- what is promised
@@ -94,8 +96,8 @@ pub each-right : EachRight schema buffer 15 run
 each-right = demand-3 papers papers-faithful schema (tableOf schema) translated buffer 15 valid run (runs (tableOf schema) buffer 15 requests)
 
 -- number, place and used length
-abbrev pub answerOf : Request × Outcome → ℕ × ℕ × ℕ
-answerOf x = (x .1 .number, x .1 .place, x .1 .used)
+abbrev pub answerOf : Step → ℕ × ℕ × ℕ
+answerOf x = (x .came .number, x .came .place, x .came .used)
 
 -- "give exactly"
 pub answers : map answerOf run ≡ (9, 3, 15) ∷ (0, 0, 19) ∷ (11, 9, 19) ∷ (0, 0, 15) ∷ (0, 0, 8) ∷ []
@@ -103,10 +105,7 @@ unfolding all-open
 answers = refl
 
 -- the same by the edit program: its six lines, the check's first
-abbrev pub requestWritten : Request → List ℕ
-requestWritten q = q .operation ∷ q .place ∷ length (q .piece) ∷ q .piece
-
-pub lines : linesOf (some (fileOf shade)) (some (fileOf small)) (some (fileOf (concat (map requestWritten requests))))
+pub lines : linesOf (some (fileOf shade)) (some (fileOf small)) (some (fileOf (concat (map numbersOf requests))))
     ≡ line 0 0 0 15 ∷ line 1 9 3 15 ∷ line 2 0 0 19 ∷ line 3 11 9 19 ∷ line 4 0 0 15 ∷ line 5 0 0 8 ∷ []
 unfolding all-open
 lines = refl

@@ -1,6 +1,8 @@
 -- The promises: the calls by their contracts, what is promised of them, and the proofs.
 pub mod Calls
+pub mod Right
 pub mod Statements
+pub mod Written
 pub mod Always
 pub mod OnTree
 pub mod ByTable
@@ -13,10 +15,14 @@ pub mod Imported
 pub mod Inclusion
 pub mod Compared
 pub mod Pointing
+-- Item 2: what is promised, and its proofs
+pub mod Undo
+pub mod Undone
 -- Item 10: what is promised, and its proof
 pub mod Cost
 pub mod Costing
 pub mod Theorems
 pub mod DtdTheorems
+pub mod UndoTheorems
 pub mod Example
 pub mod DtdExample

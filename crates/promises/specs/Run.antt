@@ -3,14 +3,14 @@
 use mathlib.Core.Path.{_≡_, refl, sym, _∙_}
 use mathlib.Core.Logic.{_↔_, _≢_}
 use mathlib.Core.Bool.{Bool, true, false, cond, _&&_}
-use mathlib.Core.List.{List, [], _∷_, _++_, map}
-use Prim.Native.Nat.{ℕ, zero, suc, _-_, _≤_, max}
+use mathlib.Core.List.{List, [], _∷_, map}
+use Prim.Native.Nat.{ℕ, zero, suc, _≤_}
 use native.Mathlib.Omega.{arith}
 use native.Mathlib.Decide.{ℕ-discrete}
-use borrow.Author.Tests.{leb-true, eqb-true, eqb-false, le-leb}
+use borrow.Author.Tests.{leb-true, eqb-true, eqb-false}
 use lib.Dec.{leb, eqb}
-use lib.ListN.{length, take, drop, replicate, length-append}
-use lib.Seq.{take-length, take-at}
+use lib.ListN.{length, take}
+use lib.Seq.{take-length}
 use Rattle.paper.specs.declared.Tok.{Tok}
 use Rattle.paper.specs.Basics.{mostTokens, elem}
 use Rattle.paper.specs.Schema.{Schema}
@@ -19,10 +19,13 @@ use Rattle.paper.specs.Shape.{shallow, shapeOf}
 use Rattle.paper.specs.Rules.{Rules, ofSchema}
 use Rattle.paper.specs.Judgement.{Answer, none-found, orElse, before, rootFault, elementFault, first, placeOf, repeated, dangling, idsOf, refsOf, valueIn, keyFault, judge, whole, checking}
 use Rattle.paper.specs.Validity.{ValidDocument}
-use Rattle.paper.specs.Edits.{Request, Outcome, refused, done, outcome, edited, touchedBy, Made, made, formFault, answered, editing, editBy, written}
+use Rattle.paper.specs.Edits.{Request, Outcome, refused, done, outcome, edited, touchedBy, Made, made, sizeFault, answered, editing, editBy}
 use Rattle.shape_laws.specs.EditJudged.{Asked, form-iff, judged-whole, asked-shape}
+use Rattle.back_laws.specs.Sizes.{size-iff}
 use Rattle.promises.specs.Calls.{papers}
-use Rattle.promises.specs.Statements.{Translated, Kept, Left, InForm, Right, EachRight, Runs}
+use Rattle.promises.specs.Right.{Kept, Left, InForm, Right, Step, EachRight}
+use Rattle.promises.specs.Statements.{Translated, Runs}
+use Rattle.promises.specs.Written.{written-valid}
 use Rattle.answer_laws.specs.ShapeParts.{and-right, shape-long, shape-element}
 use Rattle.promises.specs.Always.{edit-keeps, edit-leaves}
 use Rattle.promises.specs.ByTable.{edit-judged}
@@ -57,52 +60,34 @@ judge-neat R J d =
 -- ---- the answer to an edit in form
 
 -- what becomes of an edit in form, where a is the judgement of the edited document
-module _ (buffer : List ℕ) (used : ℕ) (a : Answer) (m : Made) (o : Outcome) (e : o ≡ outcome buffer used (answered 0 a m)) where
+module _ (buffer : List ℕ) (used : ℕ) (second : List ℕ) (a : Answer) (m : Made) (o : Outcome) (e : o ≡ outcome buffer used second (answered 0 a m)) where
   answer-done : (o .number ≡ 0) ↔ (a .0 ≡ 0)
   answer-done = go (eqb (a .0) 0) refl e
     where
-      go : (b : Bool) → eqb (a .0) 0 ≡ b → o ≡ outcome buffer used (cond b (done m) (refused (a .0) (a .1))) → (o .number ≡ 0) ↔ (a .0 ≡ 0)
+      go : (b : Bool) → eqb (a .0) 0 ≡ b → o ≡ outcome buffer used second (cond b (done m) (refused (a .0) (a .1))) → (o .number ≡ 0) ↔ (a .0 ≡ 0)
       go true f e = (λ z. eqb-true (a .0) 0 f, λ z. cc)
       go false f e = (λ z. cc, λ z. absurd (eqb-false (a .0) 0 f z))
 
   answer-place : o .number ≢ 0 → (o .number, o .place) ≡ a
   answer-place n = go (eqb (a .0) 0) e
     where
-      go : (b : Bool) → o ≡ outcome buffer used (cond b (done m) (refused (a .0) (a .1))) → (o .number, o .place) ≡ a
+      go : (b : Bool) → o ≡ outcome buffer used second (cond b (done m) (refused (a .0) (a .1))) → (o .number, o .place) ≡ a
       go true e = absurd (n (cc))
       go false e = rw e refl
-
--- ---- a document in its buffer
-
--- the new document, written to the buffer
-module _ (buffer : List ℕ) (used : ℕ) (new : List ℕ) (h : used ≤ length buffer) (k : length new ≤ length buffer) where
-  written-long : length new ≤ length (written buffer used new)
-  written-long = simp length-append (omega arith)
-
-  written-take : take (length new) (written buffer used new) ≡ new
-  written-take = take-at new (replicate (used - length new) 0 ++ drop (max used (length new)) buffer) (length new) refl
-
-  written-shape : shapeOf new (length new) ≡ true → shapeOf (written buffer used new) (length new) ≡ true
-  unfolding shapeOf
-  written-shape e =
-      rw (written-take, le-leb (length new) (length (written buffer used new)) written-long)
-      (rw (take-length new, le-leb (length new) (length new) (omega arith)) at e)
-
-  written-valid : (s : Schema) → ValidDocument s new (length new) → ValidDocument s (written buffer used new) (length new)
-  written-valid s v = record { shape = written-shape (v .shape); valid = rw written-take (rw (take-length new) at (v .valid)) }
 
 -- ---- one edit
 
 -- Judging from the expressions finds the valid documents.
 module _ (s : Schema) (valid-iff : (buffer : List ℕ) (used : ℕ) → (checking (ofSchema s) buffer used .0 ≡ 0) ↔ ValidDocument s buffer used) where
-  module _ (buffer : List ℕ) (used : ℕ) (v : ValidDocument s buffer used) (q : Request) (o : Outcome) (e : o ≡ outcome buffer used (editBy (ofSchema s) buffer used q)) where
+  module _ (buffer : List ℕ) (used : ℕ) (v : ValidDocument s buffer used) (q : Request) (second : List ℕ) (o : Outcome)
+      (e : o ≡ outcome buffer used second (editBy (ofSchema s) buffer used q second)) where
     abbrev doc : List ℕ
     doc = take used buffer
 
     abbrev new : List ℕ
     new = edited q doc
 
-    by-form : o ≡ outcome buffer used (editing (ofSchema s) (length buffer) q doc)
+    by-form : o ≡ outcome buffer used second (editing (ofSchema s) (length buffer) (length second) q doc)
     unfolding editBy
     by-form = rw (v .shape) at e
 
@@ -110,9 +95,9 @@ module _ (s : Schema) (valid-iff : (buffer : List ℕ) (used : ℕ) → (checkin
     unfolding checking
     no-fault = judge-neat (ofSchema s) whole (toks doc) (rw (v .shape) at (valid-iff buffer used .1 v))
 
-    module _ (f : InForm buffer used q) where
+    module _ (f : InForm buffer used q second) where
       asked : Asked (length buffer) q doc
-      asked = form-iff (length buffer) q doc .0 f
+      asked = form-iff (length buffer) q doc .0 (size-iff (length buffer) (length second) q doc .0 f .0)
 
       new-shape : shapeOf new (length new) ≡ true
       new-shape = asked-shape (ofSchema s) (length buffer) q doc (shape-element buffer used (v .shape)) asked
@@ -121,7 +106,7 @@ module _ (s : Schema) (valid-iff : (buffer : List ℕ) (used : ℕ) → (checkin
       unfolding checking
       new-checked = rw (new-shape, take-length new)
 
-      answer : o ≡ outcome buffer used (answered 0 (checking (ofSchema s) new (length new)) (made q doc))
+      answer : o ≡ outcome buffer used second (answered 0 (checking (ofSchema s) new (length new)) (made q doc))
       unfolding editing
       answer =
           by-form
@@ -132,36 +117,36 @@ module _ (s : Schema) (valid-iff : (buffer : List ℕ) (used : ℕ) → (checkin
 
       exactly : (o .number ≡ 0) ↔ ValidDocument s new (length new)
       exactly =
-          let d = answer-done buffer used (checking (ofSchema s) new (length new)) (made q doc) o answer in
+          let d = answer-done buffer used second (checking (ofSchema s) new (length new)) (made q doc) o answer in
           let c = valid-iff new (length new) in
           (λ z. c .0 (d .0 z), λ w. d .1 (c .1 w))
 
-    form-refused : ¬ InForm buffer used q → (o .number ≡ formFault (length buffer) q doc) × (o .place ≡ 0)
+    form-refused : ¬ InForm buffer used q second → (o .number ≡ sizeFault (length buffer) (length second) q doc) × (o .place ≡ 0)
     unfolding editing
-    form-refused n = go (formFault (length buffer) q doc) refl by-form
+    form-refused n = go (sizeFault (length buffer) (length second) q doc) refl by-form
       where
-        go : (k : ℕ) → formFault (length buffer) q doc ≡ k
-            → o ≡ outcome buffer used (answered k (judge (ofSchema s) (touchedBy q doc) (toks new)) (made q doc))
+        go : (k : ℕ) → sizeFault (length buffer) (length second) q doc ≡ k
+            → o ≡ outcome buffer used second (answered k (judge (ofSchema s) (touchedBy q doc) (toks new)) (made q doc))
             → (o .number ≡ k) × (o .place ≡ 0)
         go zero f e = absurd (n f)
         go (suc k) f e = (cc, cc)
 
     -- the document after the edit, where the edit is done as Left says, or kept
-    still-valid : (o .number ≢ 0 → Kept buffer used o) → (o .number ≡ 0 → Left buffer used q o) → ValidDocument s (o .buffer) (o .used)
+    still-valid : (o .number ≢ 0 → Kept buffer used second o) → (o .number ≡ 0 → Left buffer used q second o) → ValidDocument s (o .buffer) (o .used)
     still-valid keeps leaves = elim (ℕ-discrete (o .number) 0) [
-      | no n ↦ let (u, c, k, b) = keeps n in rw (u, b) v
-      | yes z ↦ elim (ℕ-discrete (formFault (length buffer) q doc) 0) [
+      | no n ↦ let (u, c, k, b, w) = keeps n in rw (u, b) v
+      | yes z ↦ elim (ℕ-discrete (sizeFault (length buffer) (length second) q doc) 0) [
         | yes f ↦
-            let (p, u, c, b, k) = leaves z in
+            let (p, u, c, b, k, w) = leaves z in
             rw (u, b) (written-valid buffer used new (shape-long buffer used (v .shape)) (new-fits f) s (exactly f .0 z))
         | no n ↦ absurd (n (sym (form-refused n .0) ∙ z))
       ]
     ]
 
-    right : (o .number ≢ 0 → Kept buffer used o) → (o .number ≡ 0 → Left buffer used q o) → Right s buffer used q o
+    right : (o .number ≢ 0 → Kept buffer used second o) → (o .number ≡ 0 → Left buffer used q second o) → Right s buffer used q second o
     right keeps leaves = record {
       done-exactly = exactly;
-      number-place = λ f. answer-place buffer used (checking (ofSchema s) new (length new)) (made q doc) o (answer f);
+      number-place = λ f. answer-place buffer used second (checking (ofSchema s) new (length new)) (made q doc) o (answer f);
       not-in-form = form-refused;
       kept = keeps;
       left = leaves;
@@ -171,11 +156,12 @@ module _ (s : Schema) (valid-iff : (buffer : List ℕ) (used : ℕ) → (checkin
   -- ---- the run
 
   pub run-right : (table : List ℕ) → Translated papers s table → (buffer : List ℕ) (used : ℕ) → ValidDocument s buffer used
-      → (l : List (Request × Outcome)) → Runs papers table buffer used l → EachRight s buffer used l
+      → (l : List Step) → Runs papers table buffer used l → EachRight s buffer used l
   run-right table t buffer used v [] r = tt
   run-right table t buffer used v (x ∷ l) (p, r) =
-      let q : Request = x .0 in
-      let o : Outcome = x .1 in
-      let here : Right s buffer used q o =
-      right buffer used v q o (p ∙ edit-judged s table t buffer used q) (edit-keeps table buffer used q o p) (edit-leaves table buffer used q o p) in
+      let q : Request = x .asked in
+      let second : List ℕ = x .lent in
+      let o : Outcome = x .came in
+      let here : Right s buffer used q second o =
+      right buffer used v q second o (p ∙ edit-judged s table t buffer used q second) (edit-keeps table buffer used q second o p) (edit-leaves table buffer used q second o p) in
       (here, run-right table t (o .buffer) (o .used) (here .valid-after) l r)

@@ -6,7 +6,6 @@ use mathlib.Core.Bool.{Bool, true}
 use mathlib.Core.List.{List, [], _∷_, _++_, map}
 use Prim.Native.Nat.{ℕ, _≤_, _<_}
 use lib.Dec.{T}
-use lib.IntN.{pos, _-ℤ_}
 use lib.ListN.{length, take, getD}
 use Rattle.paper.specs.declared.Tok.{Tok}
 use Rattle.paper.specs.declared.Tok.the-variants.{Start, Bad}
@@ -24,9 +23,10 @@ use Rattle.paper.specs.TreeEdits.{TreeEdit, looked}
 use Rattle.paper.specs.Rules.{ofSchema, ofTable}
 use Rattle.paper.specs.Judgement.{Answer, contentGood, contentBegun, judge, checking}
 use Rattle.paper.specs.Validity.{ValidDocument, Points, Begun, PointsAt}
-use Rattle.paper.specs.Edits.{Request, Outcome, edited, lookedAt, formFault, written}
+use Rattle.paper.specs.Edits.{Request, Outcome, edited}
 use Rattle.paper.specs.Answers.{Answers, readerAnswers, writerAnswers, translatorAnswers, checkAnswers, editAnswers}
 use Rattle.promises.specs.Calls.{Calls}
+use Rattle.promises.specs.Right.{Kept, Left, Step, EachRight}
 
 -- ---- what the tests and sets of the paper mean
 
@@ -96,49 +96,12 @@ TakenExactly = (file : List ℕ) (s : Schema) → Bytes file → ((left : List �
 abbrev pub AmbiguousExactly : Type 0
 AmbiguousExactly = (file : List ℕ) → Bytes file → (schemaOf file ≡ stop 3) ↔ MeetsAmbiguous file
 
--- ---- an edit
-
--- "an edit's gives the old length and change 0"; item 10: "Refused edits report 0."
-abbrev pub Kept : (buffer : List ℕ) → (used : ℕ) → Outcome → Type 0
-Kept buffer used o = (o .used ≡ used) × (o .change ≡ pos 0) × (o .children ≡ 0) × (o .buffer ≡ buffer)
-
--- "A done edit leaves exactly the tree of the edit rules": the tokens of the edited document, their number, the change, and 0 up to
--- the old length; item 10: it "reports the number of children looked at"
-abbrev pub Left : (buffer : List ℕ) → (used : ℕ) → Request → Outcome → Type 0
-Left buffer used q o =
-    let new : List ℕ = edited q (take used buffer) in
-    (o .place ≡ 0) × (o .used ≡ length new) × (o .change ≡ pos (length new) -ℤ pos used) × (o .buffer ≡ written buffer used new) × (o .children ≡ lookedAt q (take used buffer))
-
--- "each edit in good form, at an allowed place and within the limits"
-abbrev pub InForm : (buffer : List ℕ) → (used : ℕ) → Request → Type 0
-InForm buffer used q = formFault (length buffer) q (take used buffer) ≡ 0
-
--- One edit, made rightly. The edited document is judged whole, from the expressions.
-pub record Right (s : Schema) (buffer : List ℕ) (used : ℕ) (q : Request) (o : Outcome) : Type 0 where
-  -- "is done exactly if the edited document, judged whole from the expressions without a table, is valid"
-  pub done-exactly : InForm buffer used q → (o .number ≡ 0) ↔ ValidDocument s (edited q (take used buffer)) (length (edited q (take used buffer)))
-  -- "else number and place are those of that judgement"
-  pub number-place : InForm buffer used q → o .number ≢ 0
-      → (o .number, o .place) ≡ checking (ofSchema s) (edited q (take used buffer)) (length (edited q (take used buffer)))
-  -- an edit not in form, not at an allowed place or not within the limits gets the number of that
-  pub not-in-form : ¬ InForm buffer used q → (o .number ≡ formFault (length buffer) q (take used buffer)) × (o .place ≡ 0)
-  -- "and the document stays"
-  pub kept : o .number ≢ 0 → Kept buffer used o
-  -- what a done edit leaves
-  pub left : o .number ≡ 0 → Left buffer used q o
-  -- and the document is valid again, for the next edit
-  pub valid-after : ValidDocument s (o .buffer) (o .used)
-
-abbrev pub EachRight : Schema → (buffer : List ℕ) → (used : ℕ) → List (Request × Outcome) → Type 0
-EachRight s buffer used [] = Unit {0}
-EachRight s buffer used (x ∷ l) = Right s buffer used (x .0) (x .1) × EachRight s (x .1 .buffer) (x .1 .used) l
+-- ---- the calls
 
 -- "strong enough that two outcomes allowed for one input, answers and every place of lent memory, are proved equal"
 module _ {I O : Type 0} (Allows : I → O → Type 0) where
   abbrev pub Determinate : Type 0
   Determinate = (i : I) (o p : O) → Allows i o → Allows i p → o ≡ p
-
--- ---- the calls
 
 module _ (calls : Calls) where
   open Calls calls using (Reads, Writes, Translates, Checks, Performs)
@@ -158,7 +121,7 @@ module _ (calls : Calls) where
   CheckDeterminate = Determinate {I = List ℕ × List ℕ × ℕ} (λ i. Checks (i .0) (i .1) (i .2))
 
   abbrev pub EditDeterminate : Type 0
-  EditDeterminate = Determinate {I = List ℕ × List ℕ × ℕ × Request} (λ i. Performs (i .0) (i .1) (i .2) (i .3))
+  EditDeterminate = Determinate {I = List ℕ × List ℕ × ℕ × Request × List ℕ} (λ i. Performs (i .0) (i .1) (i .2) (i .3) (i .4))
 
   -- ---- demand 1: "Every call takes every input and answers a number of the paper."
 
@@ -179,7 +142,7 @@ module _ (calls : Calls) where
   CheckNever7 = (table buffer : List ℕ) (used : ℕ) (o : Answer) → Checks table buffer used o → o .0 ≢ 7
 
   abbrev pub EditAnswers : Type 0
-  EditAnswers = (table buffer : List ℕ) (used : ℕ) (q : Request) (o : Outcome) → Performs table buffer used q o → Answers editAnswers (o .number) (o .place)
+  EditAnswers = (table buffer : List ℕ) (used : ℕ) (q : Request) (second : List ℕ) (o : Outcome) → Performs table buffer used q second o → Answers editAnswers (o .number) (o .place)
 
   -- "A refused call leaves all lent memory as it was."
   abbrev pub ReadKeeps : Type 0
@@ -192,7 +155,7 @@ module _ (calls : Calls) where
   TranslateKeeps = (file table : List ℕ) (o : ℕ × List ℕ) → Translates file table o → o .0 ≢ 0 → o .1 ≡ table
 
   abbrev pub EditKeeps : Type 0
-  EditKeeps = (table buffer : List ℕ) (used : ℕ) (q : Request) (o : Outcome) → Performs table buffer used q o → o .number ≢ 0 → Kept buffer used o
+  EditKeeps = (table buffer : List ℕ) (used : ℕ) (q : Request) (second : List ℕ) (o : Outcome) → Performs table buffer used q second o → o .number ≢ 0 → Kept buffer used second o
 
   -- ---- demand 2
 
@@ -248,15 +211,15 @@ module _ (calls : Calls) where
 
   abbrev pub EditPoints : Type 0
   EditPoints = (s : Schema) (table : List ℕ) → Translated s table
-      → (buffer : List ℕ) (used : ℕ) (q : Request) (o : Outcome) → Performs table buffer used q o → o .number ≡ 9
+      → (buffer : List ℕ) (used : ℕ) (q : Request) (second : List ℕ) (o : Outcome) → Performs table buffer used q second o → o .number ≡ 9
       → PointsAt s (toks (edited q (take used buffer))) (o .place)
 
   abbrev pub EditLeaves : Type 0
-  EditLeaves = (table buffer : List ℕ) (used : ℕ) (q : Request) (o : Outcome) → Performs table buffer used q o → o .number ≡ 0 → Left buffer used q o
+  EditLeaves = (table buffer : List ℕ) (used : ℕ) (q : Request) (second : List ℕ) (o : Outcome) → Performs table buffer used q second o → o .number ≡ 0 → Left buffer used q second o
 
   -- .. and on the tree: the tree that the document was, and the one that it is now, are as the edit rules say; so are the children looked at
   abbrev pub EditIsTreeEdit : Type 0
-  EditIsTreeEdit = (table buffer : List ℕ) (used : ℕ) (q : Request) (o : Outcome) → Performs table buffer used q o → o .number ≡ 0
+  EditIsTreeEdit = (table buffer : List ℕ) (used : ℕ) (q : Request) (second : List ℕ) (o : Outcome) → Performs table buffer used q second o → o .number ≡ 0
       → (old : Forest) × (new : Forest) × (toks (take used buffer) ≡ flat old []) × (t : TreeEdit q old new)
       × (toks (take (o .used) (o .buffer)) ≡ flat new []) × (o .children ≡ looked t)
 
@@ -289,12 +252,12 @@ module _ (calls : Calls) where
   TableReads = (s : Schema) (table : List ℕ) → Translated s table → ofTable table ≡ ofSchema s
 
   -- A run of edits: each is made on what the one before left.
-  abbrev pub Runs : (table buffer : List ℕ) → (used : ℕ) → List (Request × Outcome) → Type 0
+  abbrev pub Runs : (table buffer : List ℕ) → (used : ℕ) → List Step → Type 0
   Runs table buffer used [] = Unit {0}
-  Runs table buffer used (x ∷ l) = Performs table buffer used (x .0) (x .1) × Runs table (x .1 .buffer) (x .1 .used) l
+  Runs table buffer used (x ∷ l) = Performs table buffer used (x .asked) (x .lent) (x .came) × Runs table (x .came .buffer) (x .came .used) l
 
   -- "From any document valid by the schema's own expressions, through any run of edits by the table, each edit [..]"
   abbrev pub Demand3 : Type 0
   Demand3 = (s : Schema) (table : List ℕ) → Translated s table
       → (buffer : List ℕ) (used : ℕ) → ValidDocument s buffer used
-      → (l : List (Request × Outcome)) → Runs table buffer used l → EachRight s buffer used l
+      → (l : List Step) → Runs table buffer used l → EachRight s buffer used l

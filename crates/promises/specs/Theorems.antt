@@ -10,7 +10,6 @@ use Rattle.paper.specs.SchemaWritten.{formed}
 use Rattle.paper.specs.Rules.{ofSchema}
 use Rattle.paper.specs.Judgement.{checking}
 use Rattle.paper.specs.Validity.{ValidDocument}
-use Rattle.paper.specs.Edits.{Request, Outcome}
 use Rattle.content_laws.specs.Theorems as content
 use Rattle.shape_laws.specs.Tree.{shape-is-tree}
 use Rattle.shape_laws.specs.TreeDepth as tree-depth
@@ -27,6 +26,7 @@ use Rattle.answer_laws.specs.Compare as compare
 use Rattle.promises.specs.Calls.{Calls, papers, Faithful}
 use Rattle.promises.specs.Statements as promised
 use Rattle.promises.specs.Statements.{Translated, Runs}
+use Rattle.promises.specs.Right.{Step}
 use Rattle.promises.specs.Always as always
 use Rattle.promises.specs.ByTable as by-table
 use Rattle.promises.specs.ByFile as by-file
@@ -107,7 +107,7 @@ module _ (calls : Calls) (is : Faithful calls) where
   check-determinate i o p a b = always.check-determinate i o p (is .checks _ _ _ o a) (is .checks _ _ _ p b)
 
   pub edit-determinate : promised.EditDeterminate calls
-  edit-determinate i o p a b = always.edit-determinate i o p (is .performs _ _ _ _ o a) (is .performs _ _ _ _ p b)
+  edit-determinate i o p a b = always.edit-determinate i o p (is .performs _ _ _ _ _ o a) (is .performs _ _ _ _ _ p b)
 
   -- ---- demand 1
 
@@ -127,7 +127,7 @@ module _ (calls : Calls) (is : Faithful calls) where
   check-never-7 table buffer used o c = check.check-never-7 table buffer used o (is .checks table buffer used o c)
 
   pub edit-answers : promised.EditAnswers calls
-  edit-answers table buffer used q o p = edit.edit-answers table buffer used q o (is .performs table buffer used q o p)
+  edit-answers table buffer used q second o p = edit.edit-answers table buffer used q second o (is .performs table buffer used q second o p)
 
   pub read-keeps : promised.ReadKeeps calls
   read-keeps file buffer o r = always.read-keeps file buffer o (is .reads file buffer o r)
@@ -139,7 +139,7 @@ module _ (calls : Calls) (is : Faithful calls) where
   translate-keeps file table o t = always.translate-keeps file table o (is .translates file table o t)
 
   pub edit-keeps : promised.EditKeeps calls
-  edit-keeps table buffer used q o p = always.edit-keeps table buffer used q o (is .performs table buffer used q o p)
+  edit-keeps table buffer used q second o p = always.edit-keeps table buffer used q second o (is .performs table buffer used q second o p)
 
   -- ---- demand 2
 
@@ -182,14 +182,14 @@ module _ (calls : Calls) (is : Faithful calls) where
   check-points s table t buffer used o c = pointing.check-points s buffer used o (check-by-expressions s table t buffer used o c)
 
   pub edit-points : promised.EditPoints calls
-  edit-points s table t buffer used q o p n =
-      pointing.edit-points s buffer used q o n (is .performs table buffer used q o p ∙ by-table.edit-judged s table (by-paper s table t) buffer used q)
+  edit-points s table t buffer used q second o p n =
+      pointing.edit-points s buffer used q second o n (is .performs table buffer used q second o p ∙ by-table.edit-judged s table (by-paper s table t) buffer used q second)
 
   pub edit-leaves : promised.EditLeaves calls
-  edit-leaves table buffer used q o p = always.edit-leaves table buffer used q o (is .performs table buffer used q o p)
+  edit-leaves table buffer used q second o p = always.edit-leaves table buffer used q second o (is .performs table buffer used q second o p)
 
   pub edit-on-tree : promised.EditIsTreeEdit calls
-  edit-on-tree table buffer used q o p = on-tree.edit-on-tree table buffer used q o (is .performs table buffer used q o p)
+  edit-on-tree table buffer used q second o p = on-tree.edit-on-tree table buffer used q second o (is .performs table buffer used q second o p)
 
   -- ---- demand 3
 
@@ -212,10 +212,10 @@ module _ (calls : Calls) (is : Faithful calls) where
   table-reads s table t = by-table.table-reads s table (by-paper s table t)
 
   -- a run of the calls is one of the paper's
-  runs-by-paper : (table buffer : List ℕ) (used : ℕ) (l : List (Request × Outcome)) → Runs calls table buffer used l → Runs papers table buffer used l
+  runs-by-paper : (table buffer : List ℕ) (used : ℕ) (l : List Step) → Runs calls table buffer used l → Runs papers table buffer used l
   runs-by-paper table buffer used [] r = tt
   runs-by-paper table buffer used (x ∷ l) (p, r) =
-      (is .performs table buffer used (x .0) (x .1) p, runs-by-paper table (x .1 .buffer) (x .1 .used) l r)
+      (is .performs table buffer used (x .asked) (x .lent) (x .came) p, runs-by-paper table (x .came .buffer) (x .came .used) l r)
 
   pub demand-3 : promised.Demand3 calls
   demand-3 s table t buffer used v l r =
@@ -225,7 +225,7 @@ module _ (calls : Calls) (is : Faithful calls) where
   -- ---- item 10
 
   pub edit-cost-bounded : cost.EditCostBounded calls
-  edit-cost-bounded table buffer used q o p = costing.bounded table buffer used q o (is .performs table buffer used q o p)
+  edit-cost-bounded table buffer used q second o p = costing.bounded table buffer used q second o (is .performs table buffer used q second o p)
 
   -- ---- item 12
 

@@ -150,6 +150,11 @@ module _ (a p : ℕ) (d : List Tok) (e : isBody (phases Body d) ≡ true) (st : 
       = ap (phases Body) (sym (take-append-drop at d)) ∙ phases-append Body (take at d) (drop at d) ∙ ap₂ phases before-slot after-slot ∙ through a q h u at-slot in
       ap isBody (new ∙ sym old) ∙ e
 
+  -- behind what the attribute has stands nothing of it, nor a value
+  pub attr-later : later a (drop (attrCut a p d) (drop (slot a (drop (suc p) d)) (drop (suc p) d))) ≡ true
+  unfolding r
+  attr-later = at-slot .rest
+
   pub attr-rest : 0 < length (drop (attrAt a p d + attrCut a p d) d)
   attr-rest = rw after-cut (later-some a (drop (attrCut a p d) (drop (slot a r) r)) (at-slot .rest))
 

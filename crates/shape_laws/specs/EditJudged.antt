@@ -37,7 +37,7 @@ text-is (Attr n ∷ p) e = clash e refl
 text-is (Value n ∷ p) e = clash e refl
 text-is (Bad ∷ p) e = clash e refl
 
-item-whole : (p : List Tok) → goodItem p ≡ true → Whole p
+pub item-whole : (p : List Tok) → goodItem p ≡ true → Whole p
 item-whole p h = go (isText p) refl h
   where
     go : (b : Bool) → isText p ≡ b → b || (isElement p && shallow p) ≡ true → Whole p
@@ -51,7 +51,7 @@ item-element p h n = go (isText p) h n
     go true h n = clash n refl
     go false h n = and-eq-true-iff (isElement p) (shallow p) .0 h .0
 
-opens-size : (r : List Tok) → atHead opens r ≡ true → 0 < itemSize r
+pub opens-size : (r : List Tok) → atHead opens r ≡ true → 0 < itemSize r
 opens-size [] e = clash e refl
 opens-size (Start n ∷ r) e = omega arith
 opens-size (Text n ∷ r) e = omega arith
@@ -60,20 +60,20 @@ opens-size (Attr n ∷ r) e = clash e refl
 opens-size (Value n ∷ r) e = clash e refl
 opens-size (Bad ∷ r) e = clash e refl
 
-same-content : (t : Tok) → opensOrEnds t ≡ true → content t ≡ true
-same-content (Start n) e = refl
-same-content (Text n) e = refl
-same-content End e = refl
-same-content (Attr n) e = e
-same-content (Value n) e = e
-same-content Bad e = e
+pub same-content : (t : Tok) → opensOrEnds t ≡ content t
+same-content (Start n) = refl
+same-content (Text n) = refl
+same-content End = refl
+same-content (Attr n) = refl
+same-content (Value n) = refl
+same-content Bad = refl
 
-insert-at : (d p : List Tok) (at : ℕ) → atHead opensOrEnds (drop (suc at) d) ≡ true → Whole p → Allowed d (suc at) 0 p
+pub insert-at : (d p : List Tok) (at : ℕ) → atHead opensOrEnds (drop (suc at) d) ≡ true → Whole p → Allowed d (suc at) 0 p
 insert-at d p at h w = go (drop (suc at) d) refl h
   where
     go : (r : List Tok) → drop (suc at) d ≡ r → atHead opensOrEnds r ≡ true → Allowed d (suc at) 0 p
     go [] e h = clash h refl
-    go (t ∷ x) e h = insert at t x e (same-content t h) w
+    go (t ∷ x) e h = insert at t x e (sym (same-content t) ∙ h) w
 
 values-put : (a : ℕ) (p : List Tok) → someValues p ≡ true → Put a (Attr a ∷ p)
 values-put a [] e = clash e refl
@@ -94,10 +94,10 @@ attr-is P (Text n ∷ p) e = clash e refl
 attr-is P (Value n ∷ p) e = clash e refl
 attr-is P (Bad ∷ p) e = clash e refl
 
-set-put : (p : List Tok) → attrWith someValues p ≡ true → Put (attrNumber p) p
+pub set-put : (p : List Tok) → attrWith someValues p ≡ true → Put (attrNumber p) p
 set-put p e = let (a, r, f, v) = attr-is someValues p e in rw f (values-put a r v)
 
-root-size : (d : List Tok) → isElement d ≡ true → itemSize d ≡ length d
+pub root-size : (d : List Tok) → isElement d ≡ true → itemSize d ≡ length d
 root-size d e = from-start (λ d. itemSize d ≡ length d) d e (λ n q e. element-parts (Start n ∷ q) e .1)
 
 module _ (d p : List Tok) (e : isElement d ≡ true) where

@@ -52,6 +52,17 @@ leb-same : (a b lim : ℕ) → (a ≤ lim) ↔ (b ≤ lim) → leb a lim ≡ leb
 leb-same a b lim i =
     same-test (leb a lim) (leb b lim) (λ p. le-leb b lim (i .0 (leb-true a lim p))) (λ q. le-leb a lim (i .1 (leb-true b lim q)))
 
+cut-within : (d : List Tok) (at n : ℕ) → Cut n (drop (suc at) d) → suc at + n ≤ length d
+cut-within d at n c = omega (arith, ap length (c .splits), length-drop n (drop (suc at) d), length-drop (suc at) d)
+
+-- an allowed edit lies in the document
+pub allowed-within : (d : List Tok) → isElement d ≡ true → {at n : ℕ} {piece : List Tok} → Allowed d at n piece → at + n ≤ length d
+allowed-within d e (insert at t x s c w) = omega (arith, ap length s, length-drop (suc at) d)
+allowed-within d e (remove at h) = cut-within d at (itemSize (drop (suc at) d)) (cut-item d at e h)
+allowed-within d e (replace at h w) = cut-within d at (itemSize (drop (suc at) d)) (cut-item d at e h)
+allowed-within d e (replace-root f) = omega arith
+allowed-within d e (attribute a p s put) = omega (arith, attr-rest a p d (element-parts d e .2) s, length-drop (attrAt a p d + attrCut a p d) d)
+
 module _ (d : List Tok) (e : isElement d ≡ true) where
   pub five-keep : {at n : ℕ} {piece : List Tok} → Allowed d at n piece → isElement (splice at n piece d) ≡ true
   five-keep (insert at t x {piece = piece} s c w) = edit-keeps d piece at 0 e (insert-cut d at t x s c) (whole-item w .0) (whole-item w .1)

@@ -18,3 +18,5 @@ pub mod EditJudged
 pub mod Looked
 pub mod Widths
 pub mod EditLooked
+-- A document with shape in its buffer
+pub mod Shaped

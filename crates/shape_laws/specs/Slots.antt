@@ -97,7 +97,7 @@ calm-here a Body t r u d e = clash u refl
 calm-here a Fail t r u d e = clash u refl
 
 -- an attribute that a good document has
-named-next : (q : Phase) (n : ℕ) (r : List Tok) → isBody (phases q (Attr n ∷ r)) ≡ true → phaseOf q (Attr n) ≡ Named n
+pub named-next : (q : Phase) (n : ℕ) (r : List Tok) → isBody (phases q (Attr n ∷ r)) ≡ true → phaseOf q (Attr n) ≡ Named n
 named-next Head n r e = refl
 named-next (Named b) n r e = failing r e
 named-next (Valued b) n r e = go (ltb b n) refl

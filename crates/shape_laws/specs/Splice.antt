@@ -18,7 +18,7 @@ use Rattle.paper.specs.Tokens.{balanced, itemSize, touched}
 use Rattle.shape_laws.specs.Phases.{content, item}
 
 -- the document, cut at the edited part
-pub parts : (at n : ℕ) (d : List Tok) → take at d ++ (take n (drop at d) ++ drop (at + n) d) ≡ d
+pub parts : {A : Type 0} (at n : ℕ) (d : List A) → take at d ++ (take n (drop at d) ++ drop (at + n) d) ≡ d
 parts at n d = ap (λ r. take at d ++ r) (ap (λ r. take n (drop at d) ++ r) (sym (drop-drop n at d)) ∙ take-append-drop n (drop at d)) ∙ take-append-drop at d
 
 module _ (fault : ℕ → List Tok → List Tok → ℕ) where

@@ -107,25 +107,30 @@ check-takes-all κs given = tt
 pub checks : (i : List ℕ × List ℕ × ℕ) (o : Answer) → Allows shrike-check i o → Checks (i .0) (i .1) (i .2) o
 checks = allowed shrike-check (λ i o. Checks (i .0) (i .1) (i .2) o) (λ κs given result after told. told)
 
--- ---- the edit: table, buffer, used length and request
+-- ---- the edit: table, buffer, used length, request and second buffer
 
-abbrev pub shrike-edit : Call (List ℕ × List ℕ × ℕ × Request) Outcome
+abbrev pub shrike-edit : Call (List ℕ × List ℕ × ℕ × Request × List ℕ) Outcome
 shrike-edit = record {
-  lifetimes = 3;
+  lifetimes = 4;
   ps = edit-kinds.ps;
   r = edit-kinds.r;
   Asked = edit.Asked;
   Learnt = edit.Learnt;
-  input = λ κs given.
-      (now (given .0), now (given .1 .0), given .1 .1 .0, record { operation = given .1 .1 .1 .0; place = given .1 .1 .1 .1 .0; piece = now (given .1 .1 .1 .1 .1 .0) });
-  outcome = λ κs result after. edited result (now (after .1 .0));
+  input = λ κs given. (
+    now (given .0),
+    now (given .1 .0),
+    given .1 .1 .0,
+    record { operation = given .1 .1 .1 .0; place = given .1 .1 .1 .1 .0; piece = now (given .1 .1 .1 .1 .1 .0) },
+    now (given .1 .1 .1 .1 .1 .1 .0),
+  );
+  outcome = λ κs result after. edited result (now (after .1 .0)) (now (after .1 .1 .1 .1 .1 .1 .0));
 }
 
 pub edit-takes-all : TakesAll shrike-edit
 edit-takes-all κs given = tt
 
-pub performs : (i : List ℕ × List ℕ × ℕ × Request) (o : Outcome) → Allows shrike-edit i o → Performs (i .0) (i .1) (i .2) (i .3) o
-performs = allowed shrike-edit (λ i o. Performs (i .0) (i .1) (i .2) (i .3) o) (λ κs given result after told. told)
+pub performs : (i : List ℕ × List ℕ × ℕ × Request × List ℕ) (o : Outcome) → Allows shrike-edit i o → Performs (i .0) (i .1) (i .2) (i .3) (i .4) o
+performs = allowed shrike-edit (λ i o. Performs (i .0) (i .1) (i .2) (i .3) (i .4) o) (λ κs given result after told. told)
 
 -- ---- the comparison: old table, new table, element and sequence buffer
 

@@ -6,8 +6,9 @@ use Rattle.paper.specs.Dtd.Imported as dtd
 use Rattle.shrikemuff.specs.declared.Answer.{Answer}
 use Rattle.shrikemuff.specs.declared.Spot.{Spot}
 
-abbrev pub edited : Answer → List ℕ → Outcome
-edited r buffer = record { number = r .number; place = r .place; used = r .used; change = r .change; children = r .children; buffer = buffer }
+abbrev pub edited : Answer → (buffer second : List ℕ) → Outcome
+edited r buffer second =
+    record { number = r .number; place = r .place; used = r .used; change = r .change; children = r .children; buffer = buffer; back = second }
 
 abbrev pub spotted : Spot → dtd.Spot
 spotted r = record { number = r .number; offset = r .offset }

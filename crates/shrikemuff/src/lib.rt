@@ -74,7 +74,8 @@ pub extern "C" fn shrike_check(table: &[u64], doc: &[u32], used: u64) -> Verdict
     }
 }
 
-// Makes an edit of the first `used` tokens of the buffer, or refuses it.
+// Makes an edit of the first `used` tokens of the buffer, or refuses it. A done edit writes the edit that takes it back into the first
+// places of the second buffer.
 #[no_mangle]
 pub extern "C" fn shrike_edit(
     table: &[u64],
@@ -83,10 +84,19 @@ pub extern "C" fn shrike_edit(
     operation: u32,
     place: u64,
     piece: &[u32],
+    back: &mut [u32],
 ) -> Answer
-    ensures { λ r. ⌜ Performs (now (table .entry)) (now (doc .entry)) used (record { operation = operation; place = place; piece = now (piece .entry) }) (edited r (now (doc .exit))) ⌝ }
+    ensures { λ r. ⌜ Performs (now (table .entry)) (now (doc .entry)) used (record { operation = operation; place = place; piece = now (piece .entry) }) (now (back .entry)) (edited r (now (doc .exit)) (now (back .exit))) ⌝ }
 {
-    let made = edits::edit(table, doc, used as usize, operation, place as usize, piece);
+    let made = edits::edit(
+        table,
+        doc,
+        used as usize,
+        operation,
+        place as usize,
+        piece,
+        back,
+    );
     Answer {
         number: made.number,
         place: made.place,

@@ -24,6 +24,7 @@ module _ (file : List ℕ) {s : Schema} {r : List ℕ} (e : schemaOf file ≡ ok
   unfolding check
   check-by-expressions buffer used = rw (file-proper, file-rules)
 
-  pub edit-by-expressions : (buffer : List ℕ) (used : ℕ) (q : Request) → edit (tableOf s) buffer used q ≡ outcome buffer used (editBy (ofSchema s) buffer used q)
+  pub edit-by-expressions : (buffer : List ℕ) (used : ℕ) (q : Request) (second : List ℕ)
+      → edit (tableOf s) buffer used q second ≡ outcome buffer used second (editBy (ofSchema s) buffer used q second)
   unfolding edit
-  edit-by-expressions buffer used q = rw (file-proper, file-rules)
+  edit-by-expressions buffer used q second = rw (file-proper, file-rules)

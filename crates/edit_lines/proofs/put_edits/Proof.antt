@@ -10,15 +10,15 @@ use Rattle.edit_lines.proofs.put_edits.Statement.{statement}
 use Rattle.edit_lines.proofs.put_edits.Tie as tie
 
 abbrev Inv-loop : tie.InvT-loop
-Inv-loop table doc₀ used file out₀ at piece₀ held₀ from₀ k₀ to₀ doc out piece held from k to = Going table doc₀ used file out₀ at doc out piece held from k to
+Inv-loop table doc₀ used file out₀ at piece₀ back₀ held₀ from₀ k₀ to₀ doc out piece back held from k to = Going table doc₀ used file out₀ at doc out piece back held from k to
 
 abbrev μ-loop : tie.MeasureT-loop
-μ-loop table doc₀ used file out₀ at piece₀ held₀ from₀ k₀ to₀ doc out piece held from k to = length file - from
+μ-loop table doc₀ used file out₀ at piece₀ back₀ held₀ from₀ k₀ to₀ doc out piece back held from k to = length file - from
 
 loop-holds : tie.Need-loop-holds Inv-loop μ-loop
 loop-holds c =
     let a = c .before .before .before .before in
-    go-none (a .args .table .now) (a .args .doc .now) (a .args .used) (a .args .file .now) (a .args .out .now) (a .args .at) _ (a .pre .3) (a .pre .2) (search needs)
+    go-none (a .args .table .now) (a .args .doc .now) (a .args .used) (a .args .file .now) (a .args .out .now) (a .args .at) _ _ (a .pre .3) (a .pre .2) (search needs) (search needs)
 
 slice-aggregate-edit-at : tie.Need-slice-aggregate-edit-at Inv-loop μ-loop
 slice-aggregate-edit-at c = search needs
@@ -78,7 +78,7 @@ loop-again c =
     let e = c .before .before .before .before .before .before .before .before .before .before .before .before .before .edit-at in
     let d = c .before .before .before .before .before .before .edit in
     let p = c .before .before .put-line .ensures in
-    go-more _ _ _ _ _ _ l (c .before .before .before .before .before .before .before .before .before .before .before .before .before .before .before .loop-test .taken) (e .ensures) (c .before .before .before .before .before .before .before .before .before .before .if1 .left) (a .pre .0) (d .ensures) (d .kept .1 .0) (e .kept .1 .1 .0 ∙ l .places) (p .0) (p .1)
+    go-more _ _ _ _ _ _ l (c .before .before .before .before .before .before .before .before .before .before .before .before .before .before .before .loop-test .taken) (e .ensures) (c .before .before .before .before .before .before .before .before .before .before .if1 .left) (a .pre .0) (d .ensures) (d .kept .1 .0) (d .kept .1 .1 .1 .1 .1 .1 .0) (e .kept .1 .1 .0 ∙ l .places) (p .0) (p .1)
 
 same-length-3 : tie.Need-same-length-3 Inv-loop μ-loop
 same-length-3 c = search needs

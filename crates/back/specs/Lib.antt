@@ -1,0 +1,2 @@
+-- The inverse of an edit, told by where the edit cuts and how much
+pub mod Noted
