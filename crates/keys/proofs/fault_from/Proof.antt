@@ -10,7 +10,7 @@ slice-aggregate-mark-ids : tie.Need-slice-aggregate-mark-ids
 slice-aggregate-mark-ids c = search needs
 
 mark-ids-requires : tie.Need-mark-ids-requires
-mark-ids-requires c κs = let s = c .before .before .before in (s .pre .0, (s .pre .1, (refl, field-empty 1024)))
+mark-ids-requires c κs = let s = c .before .before .before in (search needs, (s .pre .1, (refl, field-empty 1024)))
 
 returns : tie.Need-returns
 returns c = search fault-twice

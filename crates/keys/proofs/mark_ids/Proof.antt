@@ -61,7 +61,12 @@ loop-less : tie.Need-loop-less Inv-loop μ-loop Inv-ids μ-ids
 loop-less c = search among-less
 
 loop-again : tie.Need-loop-again Inv-loop μ-loop Inv-ids μ-ids
-loop-again c = search among-more
+loop-again c =
+    let n = c .before .before .before in
+    let v = n .before .before .before .before .before in
+    let s = v .before .before .before .before .before .before .before .before .before .before in
+    among-more (s .args .table .now) (s .args .doc .now) (s .args .used) (v .before .loop .inv) (s .pre .0 .1) (v .is-value-at .ensures)
+    (n .before .before .before .before .if2 .taken) (v .before .before .is-id .ensures) (n .before .number .ensures) (n .note .ensures) (n .note .kept .0) (c .if3 .left)
 
 counted-requires : tie.Need-counted-requires Inv-loop μ-loop Inv-ids μ-ids
 counted-requires c κs = search (needs, going-few)
