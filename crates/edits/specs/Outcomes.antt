@@ -29,7 +29,7 @@ use Rattle.form.specs.Size.{size-is}
 use Rattle.shape_laws.specs.Shaped.{shaped}
 use Rattle.back_laws.specs.Taken.{shape-document}
 use Rattle.back_laws.specs.Sizes.{size-form, size-short, size-iff}
-use Rattle.back.specs.Noted.{countBy, Cuts, cuts, need-is}
+use Rattle.back.specs.Noted.{countBy, Cuts, cuts, count-few, need-is}
 use Rattle.shape_laws.specs.Five.{allowed-within}
 use Rattle.form.specs.Form.{Formed}
 use Rattle.edits.specs.Touched.{Found}
@@ -134,6 +134,9 @@ module _ (op place : ℕ) (piece buf : List ℕ) (used : ℕ) where
     -- the room that the inverse needs
     pub ready-needs : {n : ℕ} → n ≡ countBy op (used + r .coming - r .used) → 3 + n ≡ needs q (take used buf)
     ready-needs e = need-is op place piece (take used buf) (r .at) (used + r .coming - r .used) ready-cut e
+
+    pub ready-most : {n : ℕ} → n ≡ countBy op (used + r .coming - r .used) → n ≤ mostTokens
+    ready-most e = count-few op place piece (take used buf) (r .at) (used + r .coming - r .used) ready-cut e
 
   -- ---- the ways out
 
