@@ -15,7 +15,7 @@ use Rattle.shape_laws.specs.Ends.{rest-next}
 use Rattle.shape_laws.specs.Bridge.{length-toks}
 use Rattle.tokens.specs.Sorts.{ends, textTok}
 use Rattle.tokens.specs.Theorems.{start-iff, end-iff}
-use Rattle.places.specs.Depths.{one-le}
+use Rattle.depths.specs.Depths.{one-le}
 use Rattle.children.specs.Closed.{Closed, behind, Next, next-is}
 
 -- what is no start and no end counts if it is a text

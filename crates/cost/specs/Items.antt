@@ -14,7 +14,7 @@ use Rattle.paper.specs.Edits.{opens}
 use Rattle.shape_laws.specs.Depth.{count}
 use Rattle.shape_laws.specs.Ends.{rest-next, rest-none}
 use Rattle.tokens.specs.Sorts.{textTok}
-use Rattle.places.specs.Depths.{one-le}
+use Rattle.depths.specs.Depths.{one-le}
 
 -- a start or a text
 either : (t : Tok) → starts t || textTok t ≡ opens t

@@ -2,7 +2,7 @@
 use Prim.Native.Nat.{_-_}
 use native.Mathlib.Omega.{arith}
 use borrow.Author.Needs.{needs}
-use Rattle.places.specs.Depths.{one-le}
+use Rattle.depths.specs.Depths.{one-le}
 use Rattle.cost.specs.Children.{Counting, counting-begin, counting-out, counting-end, counting-child, child-on, counting-other}
 use Rattle.cost.proofs.children_from.Statement.{statement}
 use Rattle.cost.proofs.children_from.Tie as tie

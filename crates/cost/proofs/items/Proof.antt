@@ -3,7 +3,7 @@ use mathlib.Core.Bool.{_||_}
 use Prim.Native.Nat.{_-_}
 use native.Mathlib.Omega.{arith}
 use borrow.Author.Needs.{needs}
-use Rattle.places.specs.Depths.{one-le}
+use Rattle.depths.specs.Depths.{one-le}
 use Rattle.cost.specs.Items.{Tallying, tallying-begin, tallying-turn, tallying-out}
 use Rattle.cost.proofs.items.Statement.{statement}
 use Rattle.cost.proofs.items.Tie as tie
