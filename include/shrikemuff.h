@@ -173,8 +173,8 @@ extern "C" {
 #endif
 
 /* This header's version. */
-#define SHRIKE_VERSION_MAJOR 0
-#define SHRIKE_VERSION_MINOR 2
+#define SHRIKE_VERSION_MAJOR 1
+#define SHRIKE_VERSION_MINOR 0
 #define SHRIKE_VERSION_PATCH 0
 #define SHRIKE_VERSION (SHRIKE_VERSION_MAJOR * 1000000 + SHRIKE_VERSION_MINOR * 1000 + SHRIKE_VERSION_PATCH)
 
@@ -341,11 +341,13 @@ typedef struct {
 } shrike_verdict;
 
 /* The answer of shrike_edit. used: the document's length after the call. change: the new length less the old, negative when tokens went.
- * A refusal gives the length that was handed in, and change 0. */
+ * children: how many children were looked at, as shrike_edit says. A refusal gives the length that was handed in, and 0 for change and
+ * children. */
 typedef struct {
     uint32_t number, place;
     uint64_t used;
     int32_t change;
+    uint32_t children;
 } shrike_answer;
 
 /* The answer of shrike_compare. takes_all: 1 if the new table takes all that the old one takes, else 0. length: the names of the sequence
@@ -419,6 +421,10 @@ shrike_verdict shrike_check(const uint64_t *table, size_t words, const uint32_t 
  *   5 drop     the piece is one attribute token: that attribute of the element that starts at `place` goes, with its values
  *
  * Done: `doc` holds the edited document, then 0 up to the old length; later places keep their contents.
+ *
+ * What the edit cost is told by `children`: the children and texts of the parent (for set and drop of the element itself) in the edited
+ * document, plus those of every element in the piece. A replaced root has no parent, which counts 0; elements that went do not count. It is
+ * never above the first of these plus the piece's tokens.
  *
  * Order: the table (13); shape, and `used` over `room` (4); operation (6); the piece (4), which also has at most 8,192 tokens and is at most
  * 64 deep by itself; `place` (6); the result over 8,192 tokens, over 64 deep or over `room` (5); then the edited document: the root's name

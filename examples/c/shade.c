@@ -1,4 +1,5 @@
-/* A host in C: loads a schema, a document and edits from the files of a folder, and says in words what comes of each.
+/* A host in C: loads a schema, a document and edits from the files of a folder, and says in words what comes of each; of an edit that is
+ * done also how the length changed, and at how many children it looked.
  *
  *     cc -Iinclude -o shade examples/c/shade.c target/staticlib/libshrikemuff.a
  *     ./shade samples/small-shade
@@ -121,7 +122,8 @@ int main(int argc, char **argv) {
             refused(what, answer.number, answer.place);
             printf(", %llu tokens\n", (unsigned long long)used);
         } else {
-            printf("%s: done, %llu tokens, %+d\n", what, (unsigned long long)used, (int)answer.change);
+            printf("%s: done, %llu tokens, %+d", what, (unsigned long long)used, (int)answer.change);
+            printf(", looked at %u\n", (unsigned)answer.children);
         }
     }
     return 0;

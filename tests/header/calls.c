@@ -19,6 +19,7 @@ HOLDS(answer_number_at_0, offsetof(shrike_answer, number) == 0);
 HOLDS(answer_place_at_4, offsetof(shrike_answer, place) == 4);
 HOLDS(answer_used_at_8, offsetof(shrike_answer, used) == 8);
 HOLDS(answer_change_at_16, offsetof(shrike_answer, change) == 16);
+HOLDS(answer_children_at_20, offsetof(shrike_answer, children) == 20);
 HOLDS(compared_is_12, sizeof(shrike_compared) == 12);
 HOLDS(compared_number_at_0, offsetof(shrike_compared, number) == 0);
 HOLDS(compared_takes_all_at_4, offsetof(shrike_compared, takes_all) == 4);
@@ -228,30 +229,42 @@ static void edits(void) {
     fill(doc, shade, SHADE);
     fill(due, shade, SHADE);
     /* refusals: the used length comes back as it was given, and nothing is written */
-    ANSWERED(edit(table, TABLE, doc, PLACES, SHADE, 1, 7, shade + 7, 1), 9, 8, SHADE, 0);
-    ANSWERED(edit(table, TABLE, doc, PLACES, SHADE, 3, 3, panel, PANEL), 12, 9, SHADE, 0);
-    ANSWERED(edit(table, TABLE, doc, PLACES, OVER + SHADE, 2, 10, NULL, 0), 4, 0, OVER + SHADE, 0);
-    ANSWERED(edit(table, TABLE, doc, PLACES, UINT64_MAX, 2, 10, NULL, 0), 4, 0, UINT64_MAX, 0);
-    ANSWERED(edit(table, TABLE, doc, PLACES, SHADE, 2, OVER + 10, NULL, 0), 6, 0, SHADE, 0);
-    ANSWERED(edit(table, TABLE, doc, PLACES, SHADE, UINT32_MAX, 10, NULL, 0), 6, 0, SHADE, 0);
-    ANSWERED(edit(table, TABLE, doc, PLACES, SHADE, 65536 + 2, 10, NULL, 0), 6, 0, SHADE, 0);
-    ANSWERED(edit(table, TABLE, doc, PLACES, SHADE, 1, 10, panel, PANEL - 1), 4, 0, SHADE, 0);
-    ANSWERED(edit(table, TABLE, doc, SHADE + PANEL - 1, SHADE, 1, 10, panel, PANEL), 5, 0, SHADE, 0);
-    ANSWERED(edit(table, TABLE, doc, SHADE - 1, SHADE, 2, 10, NULL, 0), 4, 0, SHADE, 0);
-    ANSWERED(edit(table, TABLE - 1, doc, PLACES, OVER + 1, 2, 10, NULL, 0), 13, 0, OVER + 1, 0);
-    ANSWERED(edit(NULL, 0, NULL, 0, OVER, 0, 0, NULL, 0), 13, 0, OVER, 0);
+    ANSWERED(edit(table, TABLE, doc, PLACES, SHADE, 1, 7, shade + 7, 1), 9, 8, SHADE, 0, 0);
+    ANSWERED(edit(table, TABLE, doc, PLACES, SHADE, 3, 3, panel, PANEL), 12, 9, SHADE, 0, 0);
+    ANSWERED(edit(table, TABLE, doc, PLACES, OVER + SHADE, 2, 10, NULL, 0), 4, 0, OVER + SHADE, 0, 0);
+    ANSWERED(edit(table, TABLE, doc, PLACES, UINT64_MAX, 2, 10, NULL, 0), 4, 0, UINT64_MAX, 0, 0);
+    ANSWERED(edit(table, TABLE, doc, PLACES, SHADE, 2, OVER + 10, NULL, 0), 6, 0, SHADE, 0, 0);
+    ANSWERED(edit(table, TABLE, doc, PLACES, SHADE, UINT32_MAX, 10, NULL, 0), 6, 0, SHADE, 0, 0);
+    ANSWERED(edit(table, TABLE, doc, PLACES, SHADE, 65536 + 2, 10, NULL, 0), 6, 0, SHADE, 0, 0);
+    ANSWERED(edit(table, TABLE, doc, PLACES, SHADE, 1, 10, panel, PANEL - 1), 4, 0, SHADE, 0, 0);
+    ANSWERED(edit(table, TABLE, doc, SHADE + PANEL - 1, SHADE, 1, 10, panel, PANEL), 5, 0, SHADE, 0, 0);
+    ANSWERED(edit(table, TABLE, doc, SHADE - 1, SHADE, 2, 10, NULL, 0), 4, 0, SHADE, 0, 0);
+    ANSWERED(edit(table, TABLE - 1, doc, PLACES, OVER + 1, 2, 10, NULL, 0), 13, 0, OVER + 1, 0, 0);
+    ANSWERED(edit(NULL, 0, NULL, 0, OVER, 0, 0, NULL, 0), 13, 0, OVER, 0, 0);
     BYTES(doc, due, sizeof doc);
     /* done: tokens come, and tokens go */
     static const uint32_t longer[] = {1, 4, 61, 9, 12, 165, 17, 243, 2, 2, 9, 12, 173, 2, 25, 20, 165, 2, 2};
     static const uint32_t shorter[] = {1, 4, 61, 9, 12, 165, 17, 243, 2, 2, 2, 0, 0, 0, 0};
     fill(due, longer, SHADE + PANEL);
-    ANSWERED(edit(table, TABLE, doc, SHADE + PANEL, SHADE, 1, 10, panel, PANEL), 0, 0, SHADE + PANEL, PANEL);
+    ANSWERED(edit(table, TABLE, doc, SHADE + PANEL, SHADE, 1, 10, panel, PANEL), 0, 0, SHADE + PANEL, PANEL, 3);
     BYTES(doc, due, sizeof doc);
     fill(doc, shade, SHADE);
     fill(due, shorter, SHADE);
-    ANSWERED(edit(table, TABLE, doc, PLACES, SHADE, 2, 10, NULL, 0), 0, 0, 11, -4);
+    ANSWERED(edit(table, TABLE, doc, PLACES, SHADE, 2, 10, NULL, 0), 0, 0, 11, -4, 1);
     BYTES(doc, due, sizeof doc);
     BYTES(table, before, sizeof table);
+}
+
+/* Children looked at: of the parent and of each element in the piece; of the piece alone, if it is the root; of the element that is set. */
+static void children(void) {
+    uint32_t doc[PLACES];
+    static const uint32_t rows[] = {9, 12, 165, 17, 243, 2, 17, 251, 2, 2}, title[] = {4, 69}, label[] = {12, 165};
+    fill(doc, shade, SHADE);
+    ANSWERED(edit(table, TABLE, doc, PLACES, SHADE, 3, 3, rows, 10), 0, 0, SHADE + 3, 3, 2 + 2 + 1 + 1);
+    ANSWERED(edit(table, TABLE, doc, PLACES, SHADE + 3, 3, 0, shade, SHADE), 0, 0, SHADE, -3, 2 + 1 + 1);
+    ANSWERED(edit(table, TABLE, doc, PLACES, SHADE, 3, 7, rows + 7, 1), 0, 0, SHADE, 0, 1);
+    ANSWERED(edit(table, TABLE, doc, PLACES, SHADE, 4, 0, title, 2), 0, 0, SHADE, 0, 2);
+    ANSWERED(edit(table, TABLE, doc, PLACES, SHADE, 4, 3, label, 2), 0, 0, SHADE, 0, 1);
 }
 
 /* ---- two tables: the small shade, and with (use, use, panel)? in place of (panel+, use*) */
@@ -322,15 +335,15 @@ static int lengths(void) {
     SAME("number", translate(schema, SCHEMA, (uint64_t *)words, OVER + TABLE), 13);
     JUDGED(check(table, TABLE, tokens, OVER, SHADE), 0, 0);
     JUDGED(check(words, OVER + TABLE, tokens, OVER, SHADE), 13, 0);
-    ANSWERED(edit(table, TABLE, tokens, OVER, SHADE, 2, 10, NULL, 0), 0, 0, 11, -4);
-    ANSWERED(edit(words, OVER + TABLE, tokens, OVER, 11, 2, 10, NULL, 0), 13, 0, 11, 0);
+    ANSWERED(edit(table, TABLE, tokens, OVER, SHADE, 2, 10, NULL, 0), 0, 0, 11, -4, 1);
+    ANSWERED(edit(words, OVER + TABLE, tokens, OVER, 11, 2, 10, NULL, 0), 13, 0, 11, 0, 0);
     COMPARED(compare(words, OVER + TABLE, table, TABLE, 0, tokens, OVER), 13, 0, 0);
     COMPARED(compare(table, TABLE, words, OVER + TABLE, 0, tokens, OVER), 13, 0, 0);
     COMPARED(compare(table, TABLE, new_table, TABLE, 0, tokens, OVER), 0, 0, 1);
     uint32_t doc[PLACES];
     fill(doc, shade, SHADE);
     tokens[0] = 9;
-    ANSWERED(edit(table, TABLE, doc, PLACES, SHADE, 2, 10, tokens, OVER), 4, 0, SHADE, 0);
+    ANSWERED(edit(table, TABLE, doc, PLACES, SHADE, 2, 10, tokens, OVER), 4, 0, SHADE, 0, 0);
     return 1;
 }
 
@@ -341,6 +354,7 @@ int main(void) {
     translators();
     checks();
     edits();
+    children();
     comparisons();
     if (!lengths()) return 1;
     return told();

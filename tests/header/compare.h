@@ -52,11 +52,12 @@ static inline void judged(int line, shrike_verdict r, uint32_t number, uint32_t 
     same(line, "place", r.place, place);
 }
 
-static inline void answered(int line, shrike_answer r, uint32_t number, uint32_t place, uint64_t used, int32_t change) {
+static inline void answered(int line, shrike_answer r, uint32_t number, uint32_t place, uint64_t used, int32_t change, uint32_t children) {
     same(line, "number", r.number, number);
     same(line, "place", r.place, place);
     same(line, "used", r.used, used);
     same(line, "change", (uint64_t)(int64_t)r.change, (uint64_t)(int64_t)change);
+    same(line, "children", r.children, children);
 }
 
 static inline void compared_as(int line, shrike_compared r, uint32_t number, uint32_t takes_all, uint32_t length) {
@@ -68,7 +69,7 @@ static inline void compared_as(int line, shrike_compared r, uint32_t number, uin
 #define COUNTED(call, number, count) counted(__LINE__, call, number, count)
 #define SPOTTED(call, number, offset) spotted(__LINE__, call, number, offset)
 #define JUDGED(call, number, place) judged(__LINE__, call, number, place)
-#define ANSWERED(call, number, place, used, change) answered(__LINE__, call, number, place, used, change)
+#define ANSWERED(call, number, place, used, change, children) answered(__LINE__, call, number, place, used, change, children)
 #define COMPARED(call, number, takes_all, length) compared_as(__LINE__, call, number, takes_all, length)
 #define SAME(what, got, due) same(__LINE__, what, got, due)
 #define BYTES(got, due, n) bytes_same(__LINE__, got, due, n)

@@ -252,21 +252,21 @@ static void operations(void) {
            SHRIKE_CDATA, SHRIKE_REQUIRED, SHRIKE_MODEL, 2, SHRIKE_ZERO_OR_MORE, NAME(2), 1, 1, SHRIKE_ID, SHRIKE_REQUIRED,
            SHRIKE_TEXT_ONLY, 0, SHRIKE_EMPTY, 1, 2, SHRIKE_IDREF, SHRIKE_REQUIRED);
     JUDGED(checked(shade, LENGTH_NOW), SHRIKE_DONE, 0);
-    ANSWERED(edited(shade, SHRIKE_INSERT, 10, panel, LENGTH(panel)), SHRIKE_DONE, 0, LENGTH_NOW + 4, 4);
-    ANSWERED(edited(shade, SHRIKE_REMOVE, 10, NULL, 0), SHRIKE_DONE, 0, LENGTH_NOW - 4, -4);
-    ANSWERED(edited(shade, SHRIKE_REPLACE, 7, row, LENGTH(row)), SHRIKE_DONE, 0, LENGTH_NOW, 0);
+    ANSWERED(edited(shade, SHRIKE_INSERT, 10, panel, LENGTH(panel)), SHRIKE_DONE, 0, LENGTH_NOW + 4, 4, 3);
+    ANSWERED(edited(shade, SHRIKE_REMOVE, 10, NULL, 0), SHRIKE_DONE, 0, LENGTH_NOW - 4, -4, 1);
+    ANSWERED(edited(shade, SHRIKE_REPLACE, 7, row, LENGTH(row)), SHRIKE_DONE, 0, LENGTH_NOW, 0, 1);
     BYTES(numbers + 7, row, sizeof row);
-    ANSWERED(edited(shade, SHRIKE_SET, 0, title, LENGTH(title)), SHRIKE_DONE, 0, LENGTH_NOW, 0);
+    ANSWERED(edited(shade, SHRIKE_SET, 0, title, LENGTH(title)), SHRIKE_DONE, 0, LENGTH_NOW, 0, 2);
     BYTES(numbers + 1, title, sizeof title);
-    ANSWERED(edited(shade, SHRIKE_DROP, 3, label, LENGTH(label)), SHRIKE_ATTRIBUTES, 3, LENGTH_NOW, 0);
-    ANSWERED(edited(shade, SHRIKE_INSERT, 1, panel, LENGTH(panel)), SHRIKE_PLACE, 0, LENGTH_NOW, 0);
-    ANSWERED(edited(shade, SHRIKE_INSERT, 10, panel, LENGTH(panel) - 1), SHRIKE_SHAPE, 0, LENGTH_NOW, 0);
-    ANSWERED(edited(shade, SHRIKE_REPLACE, 3, panel, LENGTH(panel)), SHRIKE_NO_ID, 9, LENGTH_NOW, 0);
-    ANSWERED(edited(shade, SHRIKE_INSERT, 10, shade + 3, 7), SHRIKE_ID_TWICE, 12, LENGTH_NOW, 0);
+    ANSWERED(edited(shade, SHRIKE_DROP, 3, label, LENGTH(label)), SHRIKE_ATTRIBUTES, 3, LENGTH_NOW, 0, 0);
+    ANSWERED(edited(shade, SHRIKE_INSERT, 1, panel, LENGTH(panel)), SHRIKE_PLACE, 0, LENGTH_NOW, 0, 0);
+    ANSWERED(edited(shade, SHRIKE_INSERT, 10, panel, LENGTH(panel) - 1), SHRIKE_SHAPE, 0, LENGTH_NOW, 0, 0);
+    ANSWERED(edited(shade, SHRIKE_REPLACE, 3, panel, LENGTH(panel)), SHRIKE_NO_ID, 9, LENGTH_NOW, 0, 0);
+    ANSWERED(edited(shade, SHRIKE_INSERT, 10, shade + 3, 7), SHRIKE_ID_TWICE, 12, LENGTH_NOW, 0, 0);
 
     /* the panel's element is none of the schema's four */
     static const uint32_t unnamed[] = {S(0), A(0), V(7), S(4), A(1), V(20), S(2), T(30), E, E, S(3), A(2), V(20), E, E};
-    ANSWERED(edited(unnamed, SHRIKE_REMOVE, 6, NULL, 0), SHRIKE_NAME, 3, LENGTH_NOW, 0);
+    ANSWERED(edited(unnamed, SHRIKE_REMOVE, 6, NULL, 0), SHRIKE_NAME, 3, LENGTH_NOW, 0, 0);
     DOCUMENT(SHRIKE_ROOT, 0, S(1), A(1), V(20), E);
     JUDGED(shrike_check(table, SHRIKE_TABLE_WORDS - 1, shade, LENGTH_NOW, LENGTH_NOW), SHRIKE_TABLE, 0);
 }

@@ -18,7 +18,7 @@
 //! let fault = table.edit(&mut doc, used, Edit::insert(1, &[token::text(2)])).unwrap_err();
 //! assert_eq!((fault.refusal, fault.place), (Refusal::Content, 2)); // a second text
 //! let done = table.edit(&mut doc, used, Edit::remove(1)).unwrap();
-//! assert_eq!((done.used, done.change), (2, -1));
+//! assert_eq!((done.used, done.change, done.children), (2, -1, 0));
 //! ```
 //!
 //! # Another library than the one that this was written for
@@ -129,6 +129,9 @@ pub struct Done {
     pub used: usize,
     /// the new length less the old
     pub change: i32,
+    /// the children looked at: children and texts of the touched parent, or of the element that is set or dropped, in the edited document,
+    /// and of every element in the piece
+    pub children: usize,
 }
 
 /// A schema's table.
@@ -183,7 +186,7 @@ impl Table {
                 edit.piece.len(),
             )
         };
-        Fault::of(r.number, r.place).map(|()| Done { used: r.used as usize, change: r.change })
+        Fault::of(r.number, r.place).map(|()| Done { used: r.used as usize, change: r.change, children: r.children as usize })
     }
 }
 

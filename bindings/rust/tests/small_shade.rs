@@ -21,12 +21,12 @@ fn fault<T>(refusal: Refusal, place: usize) -> Result<T, Fault> {
     Err(Fault { refusal, place })
 }
 
-/// Makes one edit of the shade: the new length and the change are due, or a fault. A refusal changes nothing; an edit that is done leaves
-/// `left`, zeros up to the old length, and what was behind.
+/// Makes one edit of the shade: the new length, the change and the children looked at are due, or a fault. A refusal changes nothing; an
+/// edit that is done leaves `left`, zeros up to the old length, and what was behind.
 #[track_caller]
-fn edited(edit: Edit<'_>, due: Result<(usize, i32), Fault>, left: &[u32]) {
+fn edited(edit: Edit<'_>, due: Result<(usize, i32, usize), Fault>, left: &[u32]) {
     let mut doc = shade();
-    assert_eq!(table().edit(&mut doc, 15, edit).map(|done| (done.used, done.change)), due);
+    assert_eq!(table().edit(&mut doc, 15, edit).map(|done| (done.used, done.change, done.children)), due);
     let mut expected = shade();
     if due.is_ok() {
         expected[..15].fill(0);
@@ -92,16 +92,16 @@ fn edits() {
     let twin = [9, 12, 165, 2];
     let link = [25, 20, 165, 2];
     edited(Edit::remove(3), fault(Content, 3), &[]);
-    edited(Edit::remove(10), Ok((11, -4)), &[1, 4, 61, 9, 12, 165, 17, 243, 2, 2, 2]);
-    edited(Edit::remove(7), Ok((14, -1)), &[1, 4, 61, 9, 12, 165, 17, 2, 2, 25, 20, 165, 2, 2]);
+    edited(Edit::remove(10), Ok((11, -4, 1)), &[1, 4, 61, 9, 12, 165, 17, 243, 2, 2, 2]);
+    edited(Edit::remove(7), Ok((14, -1, 0)), &[1, 4, 61, 9, 12, 165, 17, 2, 2, 25, 20, 165, 2, 2]);
     edited(Edit::insert(7, &[243]), fault(Content, 8), &[]);
     edited(Edit::insert(10, &twin), fault(IdTwice, 12), &[]);
-    edited(Edit::insert(10, &panel), Ok((19, 4)), &[1, 4, 61, 9, 12, 165, 17, 243, 2, 2, 9, 12, 173, 2, 25, 20, 165, 2, 2]);
+    edited(Edit::insert(10, &panel), Ok((19, 4, 3)), &[1, 4, 61, 9, 12, 165, 17, 243, 2, 2, 9, 12, 173, 2, 25, 20, 165, 2, 2]);
     edited(Edit::insert(3, &link), fault(Content, 3), &[]);
-    edited(Edit::insert(10, &link), Ok((19, 4)), &[1, 4, 61, 9, 12, 165, 17, 243, 2, 2, 25, 20, 165, 2, 25, 20, 165, 2, 2]);
+    edited(Edit::insert(10, &link), Ok((19, 4, 3)), &[1, 4, 61, 9, 12, 165, 17, 243, 2, 2, 25, 20, 165, 2, 25, 20, 165, 2, 2]);
     edited(Edit::replace(3, &panel), fault(NoId, 9), &[]);
     edited(Edit::drop(3, &[12]), fault(Attributes, 3), &[]);
-    edited(Edit::set(0, &[4, 69]), Ok((15, 0)), &[1, 4, 69, 9, 12, 165, 17, 243, 2, 2, 25, 20, 165, 2, 2]);
+    edited(Edit::set(0, &[4, 69]), Ok((15, 0, 2)), &[1, 4, 69, 9, 12, 165, 17, 243, 2, 2, 25, 20, 165, 2, 2]);
     for place in [0, 1, 15, usize::MAX] {
         edited(Edit::insert(place, &panel), fault(Place, 0), &[]);
     }
@@ -147,7 +147,7 @@ fn raw_lengths() {
     let given = (1 << 40) + 15;
     // SAFETY: the pointers are those of live slices, with their lengths.
     let r = unsafe { raw::shrike_edit(t.words().as_ptr(), TABLE_WORDS, doc.as_mut_ptr(), doc.len(), given, 2, 10, [].as_ptr(), 0) };
-    assert_eq!(r, raw::Answer { number: 4, place: 0, used: given, change: 0 });
+    assert_eq!(r, raw::Answer { number: 4, place: 0, used: given, change: 0, children: 0 });
     assert_eq!(doc, shade());
 }
 

@@ -1,4 +1,5 @@
-//! A host in Rust: loads a schema, a document and edits from the files of a folder, and says in words what comes of each.
+//! A host in Rust: loads a schema, a document and edits from the files of a folder, and says in words what comes of each; of an edit that is
+//! done also how the length changed, and at how many children it looked.
 //!
 //!     cargo run -- ../../samples/small-shade
 //!
@@ -89,7 +90,7 @@ fn run(folder: &Path) -> Result<(), String> {
         match table.edit(&mut doc, used, edit) {
             Ok(done) => {
                 used = done.used;
-                println!("{what}: done, {used} tokens, {:+}", done.change);
+                println!("{what}: done, {used} tokens, {:+}, looked at {}", done.change, done.children);
             }
             Err(fault) => println!("{what}: refused, {fault}, {used} tokens"),
         }
