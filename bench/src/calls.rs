@@ -24,6 +24,7 @@ pub struct Answer {
     pub place: u32,
     pub used: u64,
     pub change: i32,
+    pub children: u32,
 }
 
 #[derive(Clone, Copy, Debug, PartialEq, Eq)]

@@ -48,7 +48,7 @@ impl Calls for Core {
         let (words, room, n) = (table.len(), buffer.len(), piece.len());
         let (table, doc, piece) = (table.as_ptr(), buffer.as_mut_ptr(), piece.as_ptr());
         let said = unsafe { raw::shrike_edit(table, words, doc, room, used, operation, place, piece, n) };
-        Answer { number: said.number, place: said.place, used: said.used, change: said.change }
+        Answer { number: said.number, place: said.place, used: said.used, change: said.change, children: said.children }
     }
 
     fn compare(&self, old: &[u64], new: &[u64], element: u32, sequence: &mut [u32]) -> Compared {

@@ -15,8 +15,16 @@ struct Splice<'a> {
     touched: Option<usize>,
 }
 
-/// The new length.
-pub fn edit(words: &[u64], buffer: &mut [u32], used: u64, operation: u32, place: u64, piece: &[u32], keys: Keys) -> Result<usize, Fault> {
+/// The new length, and how many children were looked at.
+pub fn edit(
+    words: &[u64],
+    buffer: &mut [u32],
+    used: u64,
+    operation: u32,
+    place: u64,
+    piece: &[u32],
+    keys: Keys,
+) -> Result<(usize, usize), Fault> {
     let table = Table::proper(words).ok_or(13u32)?;
     let tokens = shape::document(buffer, used).ok_or(4u32)?;
     if !(INSERT..=DROP).contains(&operation) {
@@ -36,14 +44,14 @@ pub fn edit(words: &[u64], buffer: &mut [u32], used: u64, operation: u32, place:
     edited.extend_from_slice(splice.put);
     edited.extend_from_slice(&tokens[splice.at + splice.cut..]);
     let of_piece = judge::starts(&edited, splice.at, splice.at + splice.put.len());
-    judge::judge(table, &edited, splice.touched.into_iter().chain(of_piece), keys)?;
+    let children = judge::judge(table, &edited, splice.touched.into_iter().chain(of_piece), keys)?;
 
     let old = tokens.len();
     buffer[..new].copy_from_slice(&edited);
     if new < old {
         buffer[new..old].fill(0);
     }
-    Ok(new)
+    Ok((new, children))
 }
 
 fn is_piece(operation: u32, piece: &[u32]) -> bool {

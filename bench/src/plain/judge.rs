@@ -8,7 +8,7 @@ use super::Fault;
 pub fn check(words: &[u64], buffer: &[u32], used: u64, keys: Keys) -> Result<(), Fault> {
     let table = Table::proper(words).ok_or(13u32)?;
     let tokens = shape::document(buffer, used).ok_or(4u32)?;
-    judge(table, tokens, starts(tokens, 0, tokens.len()), keys)
+    judge(table, tokens, starts(tokens, 0, tokens.len()), keys).map(|_| ())
 }
 
 /// The places of starts, rising, from `from` to before `to`.
@@ -16,19 +16,22 @@ pub fn starts(tokens: &[u32], from: usize, to: usize) -> impl Iterator<Item = us
     (from..to).filter(move |&place| sort(tokens[place]) == START)
 }
 
-/// Judges tokens that have shape: the root's name, then the elements whose starts are given, then IDs and references.
-pub fn judge(table: Table, tokens: &[u32], touched: impl Iterator<Item = usize>, keys: Keys) -> Result<(), Fault> {
+/// Judges tokens that have shape: the root's name, then the elements whose starts are given, then IDs and references. How many children
+/// those elements have.
+pub fn judge(table: Table, tokens: &[u32], touched: impl Iterator<Item = usize>, keys: Keys) -> Result<usize, Fault> {
     if number(tokens[0]) != table.root() {
         return Err(Fault::at(10, 0));
     }
     let ends = shape::ends(tokens);
+    let mut children = 0;
     for start in touched {
-        judge_element(table, tokens, &ends, start)?;
+        children += judge_element(table, tokens, &ends, start)?;
     }
-    keys::judge(table, tokens, keys)
+    keys::judge(table, tokens, keys)?;
+    Ok(children)
 }
 
-fn judge_element(table: Table, tokens: &[u32], ends: &[u32], start: usize) -> Result<(), Fault> {
+fn judge_element(table: Table, tokens: &[u32], ends: &[u32], start: usize) -> Result<usize, Fault> {
     let element = table.element(number(tokens[start])).ok_or_else(|| Fault::at(7, start))?;
     let content = judge_attributes(element, tokens, start + 1).map_err(|number| Fault::at(number, start))?;
     judge_content(element, tokens, ends, content).map_err(|place| Fault::at(9, place))
@@ -56,13 +59,15 @@ fn judge_attributes(element: Element, tokens: &[u32], mut at: usize) -> Result<u
     }
 }
 
-/// `at` is the place of the first child, text, or the element's end. An error is the place of the first child or text with which content
-/// cannot go on, or of the end.
-fn judge_content(element: Element, tokens: &[u32], ends: &[u32], mut at: usize) -> Result<(), usize> {
+/// `at` is the place of the first child, text, or the element's end. How many children and texts there are; an error is the place of the
+/// first child or text with which content cannot go on, or of the end.
+fn judge_content(element: Element, tokens: &[u32], ends: &[u32], mut at: usize) -> Result<usize, usize> {
+    let mut children = 0;
     let good = match element.kind() {
         table::EMPTY => sort(tokens[at]) == END,
         table::TEXT => {
-            at += (sort(tokens[at]) == TEXT) as usize;
+            children = (sort(tokens[at]) == TEXT) as usize;
+            at += children;
             sort(tokens[at]) == END
         }
         _ => {
@@ -72,12 +77,13 @@ fn judge_content(element: Element, tokens: &[u32], ends: &[u32], mut at: usize) 
                     return Err(at);
                 }
                 at = ends[at] as usize + 1;
+                children += 1;
             }
             sort(tokens[at]) == END && run.may_end()
         }
     };
     if good {
-        Ok(())
+        Ok(children)
     } else {
         Err(at)
     }

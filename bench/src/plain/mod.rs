@@ -82,8 +82,10 @@ impl Calls for Plain {
     #[inline(never)]
     fn edit(&self, table: &[u64], buffer: &mut [u32], used: u64, operation: u32, place: u64, piece: &[u32]) -> Answer {
         match edits::edit(table, buffer, used, operation, place, piece, self.keys) {
-            Ok(new) => Answer { number: 0, place: 0, used: new as u64, change: new as i32 - used as i32 },
-            Err(fault) => Answer { number: fault.number, place: fault.place, used, change: 0 },
+            Ok((new, children)) => {
+                Answer { number: 0, place: 0, used: new as u64, change: new as i32 - used as i32, children: children as u32 }
+            }
+            Err(fault) => Answer { number: fault.number, place: fault.place, used, change: 0, children: 0 },
         }
     }
 

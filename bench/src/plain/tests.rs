@@ -17,8 +17,8 @@ fn table(plain: &Plain) -> Vec<u64> {
     table
 }
 
-/// Number, place and used length of an edit of the small shade in a buffer of 32 places.
-fn edited(operation: u32, place: u64, piece: &[u32]) -> (u32, u32, u64) {
+/// The answer to an edit of the small shade in a buffer of 32 places.
+fn answer(operation: u32, place: u64, piece: &[u32]) -> Answer {
     let [plain, field] = both();
     let table = table(&plain);
     let mut buffer = [7u32; 32];
@@ -36,6 +36,12 @@ fn edited(operation: u32, place: u64, piece: &[u32]) -> (u32, u32, u64) {
     } else {
         assert_eq!(buffer, before);
     }
+    answer
+}
+
+/// Its number, place and used length.
+fn edited(operation: u32, place: u64, piece: &[u32]) -> (u32, u32, u64) {
+    let answer = answer(operation, place, piece);
     (answer.number, answer.place, answer.used)
 }
 
@@ -65,6 +71,18 @@ fn edits_of_the_small_shade() {
         assert_eq!(edited(1, place, &[25, 20, 165, 2]), (6, 0, 15));
     }
     assert_eq!(edited(1, 14, &[25, 20, 165, 2]), (0, 0, 19));
+}
+
+#[test]
+fn children_looked_at() {
+    let children = |operation, place, piece: &[u32]| answer(operation, place, piece).children;
+    assert_eq!(children(1, 10, &[9, 12, 173, 2]), 3);
+    assert_eq!(children(2, 10, &[]), 1);
+    assert_eq!(children(2, 7, &[]), 0);
+    assert_eq!(children(3, 3, &[9, 12, 165, 17, 243, 2, 17, 251, 2, 2]), 6);
+    assert_eq!(children(3, 0, &SHADE), 4);
+    assert_eq!(children(4, 0, &[4, 69]), 2);
+    assert_eq!(children(2, 3, &[]), 0);
 }
 
 #[test]
