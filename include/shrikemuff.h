@@ -2,8 +2,8 @@
  *
  * Nine calls: a document file is read into tokens and written from them; a DTD's text becomes a schema file, its names are listed, and the
  * spot is told at which it is refused; a schema file is translated to a table; a document is checked by a table; a document is edited, and
- * stays as it was unless the edited document keeps to the schema; two tables are compared, whether the new one takes what the old one takes
- * in an element. A tenth tells the library's version.
+ * stays as it was unless the edited document keeps to the schema, and each edit that is done tells the one that takes it back; two tables are
+ * compared, whether the new one takes what the old one takes in an element. A tenth tells the library's version.
  * Link libshrikemuff.a. ISO C99, and C++; Linux on x86-64.
  *
  * What each call answers, and what it leaves in every place of the memory lent to it, is proved of the source that the library is compiled
@@ -189,7 +189,8 @@ enum {
     SHRIKE_MOST_SYMBOLS = 255,       /* symbols of a model */
     SHRIKE_MOST_NAMES = 64,          /* names that occur in a model */
     SHRIKE_MOST_ATTRIBUTES = 64,     /* attributes of an element; their numbers are below it */
-    SHRIKE_MOST_SCHEMA_FILE = 21650  /* bytes of the schema file of a DTD text */
+    SHRIKE_MOST_SCHEMA_FILE = 21650, /* bytes of the schema file of a DTD text */
+    SHRIKE_MOST_BACK = 8195          /* numbers of the edit that takes an edit back: three, and its piece */
 };
 
 /* Sorts of tokens. */
@@ -420,18 +421,38 @@ shrike_verdict shrike_check(const uint64_t *table, size_t words, const uint32_t 
  *   4 set      the piece, one attribute and its values, is added to the element that starts at `place`, or takes the place of the values there
  *   5 drop     the piece is one attribute token: that attribute of the element that starts at `place` goes, with its values
  *
- * Done: `doc` holds the edited document, then 0 up to the old length; later places keep their contents.
+ * Done: `doc` holds the edited document, then 0 up to the old length; `back` holds the edit that takes this one back. In both, later places
+ * keep their contents. Refused: nothing is written to either.
+ *
+ * What stands in `back` is an operation, the same place, the number of tokens in a piece, and the piece: 3 places and those of the piece.
+ * SHRIKE_MOST_BACK places are always enough. An edit is taken back
+ *
+ *   1 insert   by 2 remove
+ *   2 remove   by 1 insert; the piece is what went
+ *   3 replace  by 3 replace; the piece is what went
+ *   4 set      by 5 drop, if the attribute was added; else by 4 set, and the piece is what went, also where the values are the same ones
+ *   5 drop     by 4 set; the piece is what went
+ *
+ * So the step back is
+ *
+ *     shrike_edit(table, words, doc, room, used, back[0], back[1], back + 3, back[2], other, SHRIKE_MOST_BACK)
+ *
+ * with the `used` that was answered, and with another buffer for the edit that takes the step back: `back` overlaps neither `doc` nor
+ * `piece`. If the document was valid before an edit that was done, the step back from it is always done in the same `doc`, if `other` has
+ * room for what is written there, and gives back every token of the document and its length. So a run of edits is taken back to the first
+ * document, the last one that was done first. A step back from a step back makes the edit again.
  *
  * What the edit cost is told by `children`: the children and texts of the parent (for set and drop of the element itself) in the edited
  * document, plus those of every element in the piece. A replaced root has no parent, which counts 0; elements that went do not count. It is
  * never above the first of these plus the piece's tokens.
  *
  * Order: the table (13); shape, and `used` over `room` (4); operation (6); the piece (4), which also has at most 8,192 tokens and is at most
- * 64 deep by itself; `place` (6); the result over 8,192 tokens, over 64 deep or over `room` (5); then the edited document: the root's name
- * (10); at touched elements, by rising place, the name (7), attributes (8) and content (9); IDs (11); references (12). Touched are the
- * parent (for set and drop the element itself) and all elements of the piece. Places are those of the edited document. */
+ * 64 deep by itself; `place` (6); the result over 8,192 tokens, over 64 deep or over `room` (5); `back_room` below what is to be written
+ * there (5); then the edited document: the root's name (10); at touched elements, by rising place, the name (7), attributes (8) and content
+ * (9); IDs (11); references (12). Touched are the parent (for set and drop the element itself) and all elements of the piece. Places are
+ * those of the edited document. */
 shrike_answer shrike_edit(const uint64_t *table, size_t words, uint32_t *doc, size_t room, uint64_t used, uint32_t operation,
-                          uint64_t place, const uint32_t *piece, size_t n);
+                          uint64_t place, const uint32_t *piece, size_t n, uint32_t *back, size_t back_room);
 
 /* Compares the content of an element in two tables: does the new one take every sequence of children that the old one takes?
  *

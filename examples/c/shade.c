@@ -1,13 +1,16 @@
 /* A host in C: loads a schema, a document and edits from the files of a folder, and says in words what comes of each; of an edit that is
- * done also how the length changed, and at how many children it looked.
+ * done also how the length changed, and at how many children it looked. Then it takes back all that were done, the last one first, and says
+ * whether the document is the first one again.
  *
  *     cc -Iinclude -o shade examples/c/shade.c target/staticlib/libshrikemuff.a
  *     ./shade samples/small-shade
  *
- * Ends with 0 once every edit was tried, and with 1 if the library, a file, the schema or the document is refused. */
+ * Ends with 0 once every edit was tried and taken back, and with 1 if the library, a file, the schema or the document is refused, or if the
+ * document is another one in the end. */
 #include "shrikemuff.h"
 
 #include <stdio.h>
+#include <string.h>
 
 static const char *const operations[] = {"no operation", "insert", "remove", "replace", "set", "drop"};
 
@@ -18,8 +21,16 @@ struct bytes {
 };
 
 static struct bytes schema, document, edits;
-static uint64_t table[SHRIKE_TABLE_WORDS];
+static uint64_t table[SHRIKE_TABLE_WORDS], used;
 static uint32_t doc[SHRIKE_MOST_TOKENS], piece[SHRIKE_MOST_TOKENS];
+
+/* The steps back stand end to end in `backs`: an edit is lent all that is free there. The edits of one file do not fill it, as a token that
+ * goes has come with the document or from the file; and an edit is three numbers there at least. */
+static struct {
+    unsigned line;
+    const uint32_t *at;
+} steps[sizeof edits.at / 3];
+static uint32_t backs[4 * sizeof edits.at];
 
 /* Loads FOLDER/NAME. */
 static int load(const char *folder, const char *name, struct bytes *b) {
@@ -71,6 +82,48 @@ static uint32_t next_edit(size_t *at, uint32_t *operation, uint32_t *place, size
     return SHRIKE_DONE;
 }
 
+/* Makes an edit, and says what comes of it: whether it is done. */
+static int made(const char *what, unsigned line, uint32_t operation, uint32_t place, const uint32_t *with, size_t n, uint32_t *back,
+                size_t back_room) {
+    char said[64];
+    shrike_answer answer =
+        shrike_edit(table, SHRIKE_TABLE_WORDS, doc, SHRIKE_MOST_TOKENS, used, operation, place, with, n, back, back_room);
+    used = answer.used;
+    snprintf(said, sizeof said, "%s %u, %s at %u", what, line, operations[operation <= SHRIKE_DROP ? operation : 0], (unsigned)place);
+    if (answer.number != SHRIKE_DONE) {
+        refused(said, answer.number, answer.place);
+        printf(", %llu tokens\n", (unsigned long long)used);
+        return 0;
+    }
+    printf("%s: done, %llu tokens, %+d", said, (unsigned long long)used, (int)answer.change);
+    printf(", looked at %u\n", (unsigned)answer.children);
+    return 1;
+}
+
+/* Makes all edits of the file, and takes back those that were done, the last one first. Answers 0, or the number of what is wrong with the
+ * file. */
+static uint32_t there_and_back(void) {
+    static uint32_t other[SHRIKE_MOST_BACK];
+    uint32_t *top = backs, *const end = backs + sizeof backs / sizeof *backs;
+    size_t at = 0, done = 0;
+    for (unsigned line = 1; at < edits.length; line++) {
+        uint32_t operation, place;
+        size_t n;
+        uint32_t number = next_edit(&at, &operation, &place, &n);
+        if (number != SHRIKE_DONE) return number;
+        if (made("edit", line, operation, place, piece, n, top, (size_t)(end - top))) {
+            steps[done].line = line;
+            steps[done++].at = top;
+            top += 3 + top[2];
+        }
+    }
+    while (done > 0) {
+        const uint32_t *back = steps[--done].at;
+        made("back from edit", steps[done].line, back[0], back[1], back + 3, back[2], other, SHRIKE_MOST_BACK);
+    }
+    return SHRIKE_DONE;
+}
+
 int main(int argc, char **argv) {
     if (argc != 2) {
         fprintf(stderr, "usage: shade FOLDER\n");
@@ -95,7 +148,7 @@ int main(int argc, char **argv) {
         printf("\n");
         return 1;
     }
-    uint64_t used = in.count;
+    used = in.count;
     shrike_verdict verdict = shrike_check(table, SHRIKE_TABLE_WORDS, doc, SHRIKE_MOST_TOKENS, used);
     if (verdict.number != SHRIKE_DONE) {
         refused("check", verdict.number, verdict.place);
@@ -104,27 +157,15 @@ int main(int argc, char **argv) {
     }
     printf("check: valid, %llu tokens\n", (unsigned long long)used);
 
-    size_t at = 0;
-    for (unsigned line = 1; at < edits.length; line++) {
-        uint32_t operation, place;
-        size_t n;
-        number = next_edit(&at, &operation, &place, &n);
-        if (number != SHRIKE_DONE) {
-            refused("edits", number, 0);
-            printf("\n");
-            return 1;
-        }
-        shrike_answer answer = shrike_edit(table, SHRIKE_TABLE_WORDS, doc, SHRIKE_MOST_TOKENS, used, operation, place, piece, n);
-        used = answer.used;
-        char what[64];
-        snprintf(what, sizeof what, "edit %u, %s at %u", line, operations[operation <= SHRIKE_DROP ? operation : 0], (unsigned)place);
-        if (answer.number != SHRIKE_DONE) {
-            refused(what, answer.number, answer.place);
-            printf(", %llu tokens\n", (unsigned long long)used);
-        } else {
-            printf("%s: done, %llu tokens, %+d", what, (unsigned long long)used, (int)answer.change);
-            printf(", looked at %u\n", (unsigned)answer.children);
-        }
+    static uint32_t first[SHRIKE_MOST_TOKENS];
+    memcpy(first, doc, sizeof doc);
+    number = there_and_back();
+    if (number != SHRIKE_DONE) {
+        refused("edits", number, 0);
+        printf("\n");
+        return 1;
     }
-    return 0;
+    int same = used == in.count && memcmp(first, doc, in.count * sizeof *doc) == 0;
+    printf("document: %s, %llu tokens\n", same ? "the first one again" : "not the first one", (unsigned long long)used);
+    return same ? 0 : 1;
 }

@@ -33,8 +33,8 @@ static shrike_count (*const list_names)(const uint8_t *, size_t, uint8_t *, size
 static shrike_spot (*const import_spot)(const uint8_t *, size_t) = shrike_import_spot;
 static uint32_t (*const translate)(const uint8_t *, size_t, uint64_t *, size_t) = shrike_translate;
 static shrike_verdict (*const check)(const uint64_t *, size_t, const uint32_t *, size_t, uint64_t) = shrike_check;
-static shrike_answer (*const edit)(const uint64_t *, size_t, uint32_t *, size_t, uint64_t, uint32_t, uint64_t, const uint32_t *,
-                                   size_t) = shrike_edit;
+static shrike_answer (*const edit)(const uint64_t *, size_t, uint32_t *, size_t, uint64_t, uint32_t, uint64_t, const uint32_t *, size_t,
+                                   uint32_t *, size_t) = shrike_edit;
 static shrike_compared (*const compare)(const uint64_t *, size_t, const uint64_t *, size_t, uint32_t, uint32_t *, size_t) = shrike_compare;
 
 /* ---- the small shade */
@@ -225,46 +225,107 @@ static void checks(void) {
 }
 
 static void edits(void) {
-    uint32_t doc[PLACES], due[PLACES];
+    uint32_t doc[PLACES], due[PLACES], back[PLACES], back_due[PLACES];
     fill(doc, shade, SHADE);
     fill(due, shade, SHADE);
+    fill(back, NULL, 0);
+    fill(back_due, NULL, 0);
     /* refusals: the used length comes back as it was given, and nothing is written */
-    ANSWERED(edit(table, TABLE, doc, PLACES, SHADE, 1, 7, shade + 7, 1), 9, 8, SHADE, 0, 0);
-    ANSWERED(edit(table, TABLE, doc, PLACES, SHADE, 3, 3, panel, PANEL), 12, 9, SHADE, 0, 0);
-    ANSWERED(edit(table, TABLE, doc, PLACES, OVER + SHADE, 2, 10, NULL, 0), 4, 0, OVER + SHADE, 0, 0);
-    ANSWERED(edit(table, TABLE, doc, PLACES, UINT64_MAX, 2, 10, NULL, 0), 4, 0, UINT64_MAX, 0, 0);
-    ANSWERED(edit(table, TABLE, doc, PLACES, SHADE, 2, OVER + 10, NULL, 0), 6, 0, SHADE, 0, 0);
-    ANSWERED(edit(table, TABLE, doc, PLACES, SHADE, UINT32_MAX, 10, NULL, 0), 6, 0, SHADE, 0, 0);
-    ANSWERED(edit(table, TABLE, doc, PLACES, SHADE, 65536 + 2, 10, NULL, 0), 6, 0, SHADE, 0, 0);
-    ANSWERED(edit(table, TABLE, doc, PLACES, SHADE, 1, 10, panel, PANEL - 1), 4, 0, SHADE, 0, 0);
-    ANSWERED(edit(table, TABLE, doc, SHADE + PANEL - 1, SHADE, 1, 10, panel, PANEL), 5, 0, SHADE, 0, 0);
-    ANSWERED(edit(table, TABLE, doc, SHADE - 1, SHADE, 2, 10, NULL, 0), 4, 0, SHADE, 0, 0);
-    ANSWERED(edit(table, TABLE - 1, doc, PLACES, OVER + 1, 2, 10, NULL, 0), 13, 0, OVER + 1, 0, 0);
-    ANSWERED(edit(NULL, 0, NULL, 0, OVER, 0, 0, NULL, 0), 13, 0, OVER, 0, 0);
+    ANSWERED(edit(table, TABLE, doc, PLACES, SHADE, 1, 7, shade + 7, 1, back, PLACES), 9, 8, SHADE, 0, 0);
+    ANSWERED(edit(table, TABLE, doc, PLACES, SHADE, 3, 3, panel, PANEL, back, PLACES), 12, 9, SHADE, 0, 0);
+    ANSWERED(edit(table, TABLE, doc, PLACES, OVER + SHADE, 2, 10, NULL, 0, back, PLACES), 4, 0, OVER + SHADE, 0, 0);
+    ANSWERED(edit(table, TABLE, doc, PLACES, UINT64_MAX, 2, 10, NULL, 0, back, PLACES), 4, 0, UINT64_MAX, 0, 0);
+    ANSWERED(edit(table, TABLE, doc, PLACES, SHADE, 2, OVER + 10, NULL, 0, back, PLACES), 6, 0, SHADE, 0, 0);
+    ANSWERED(edit(table, TABLE, doc, PLACES, SHADE, UINT32_MAX, 10, NULL, 0, back, PLACES), 6, 0, SHADE, 0, 0);
+    ANSWERED(edit(table, TABLE, doc, PLACES, SHADE, 65536 + 2, 10, NULL, 0, back, PLACES), 6, 0, SHADE, 0, 0);
+    ANSWERED(edit(table, TABLE, doc, PLACES, SHADE, 1, 10, panel, PANEL - 1, back, PLACES), 4, 0, SHADE, 0, 0);
+    ANSWERED(edit(table, TABLE, doc, SHADE + PANEL - 1, SHADE, 1, 10, panel, PANEL, back, PLACES), 5, 0, SHADE, 0, 0);
+    ANSWERED(edit(table, TABLE, doc, SHADE - 1, SHADE, 2, 10, NULL, 0, back, PLACES), 4, 0, SHADE, 0, 0);
+    ANSWERED(edit(table, TABLE - 1, doc, PLACES, OVER + 1, 2, 10, NULL, 0, back, PLACES), 13, 0, OVER + 1, 0, 0);
+    ANSWERED(edit(NULL, 0, NULL, 0, OVER, 0, 0, NULL, 0, NULL, 0), 13, 0, OVER, 0, 0);
+    /* the second buffer: after the place, and before the document is judged */
+    ANSWERED(edit(table, TABLE, doc, PLACES, SHADE, 2, SHADE, NULL, 0, NULL, 0), 6, 0, SHADE, 0, 0);
+    ANSWERED(edit(table, TABLE, doc, PLACES, SHADE, 2, 3, NULL, 0, NULL, 0), 5, 0, SHADE, 0, 0);
+    ANSWERED(edit(table, TABLE, doc, PLACES, SHADE, 2, 3, NULL, 0, back, 9), 5, 0, SHADE, 0, 0);
+    ANSWERED(edit(table, TABLE, doc, PLACES, SHADE, 2, 3, NULL, 0, back, 10), 9, 3, SHADE, 0, 0);
     BYTES(doc, due, sizeof doc);
+    BYTES(back, back_due, sizeof back);
     /* done: tokens come, and tokens go */
     static const uint32_t longer[] = {1, 4, 61, 9, 12, 165, 17, 243, 2, 2, 9, 12, 173, 2, 25, 20, 165, 2, 2};
     static const uint32_t shorter[] = {1, 4, 61, 9, 12, 165, 17, 243, 2, 2, 2, 0, 0, 0, 0};
     fill(due, longer, SHADE + PANEL);
-    ANSWERED(edit(table, TABLE, doc, SHADE + PANEL, SHADE, 1, 10, panel, PANEL), 0, 0, SHADE + PANEL, PANEL, 3);
+    ANSWERED(edit(table, TABLE, doc, SHADE + PANEL, SHADE, 1, 10, panel, PANEL, back, PLACES), 0, 0, SHADE + PANEL, PANEL, 3);
     BYTES(doc, due, sizeof doc);
     fill(doc, shade, SHADE);
     fill(due, shorter, SHADE);
-    ANSWERED(edit(table, TABLE, doc, PLACES, SHADE, 2, 10, NULL, 0), 0, 0, 11, -4, 1);
+    ANSWERED(edit(table, TABLE, doc, PLACES, SHADE, 2, 10, NULL, 0, back, PLACES), 0, 0, 11, -4, 1);
     BYTES(doc, due, sizeof doc);
     BYTES(table, before, sizeof table);
 }
 
 /* Children looked at: of the parent and of each element in the piece; of the piece alone, if it is the root; of the element that is set. */
 static void children(void) {
-    uint32_t doc[PLACES];
+    uint32_t doc[PLACES], back[PLACES];
     static const uint32_t rows[] = {9, 12, 165, 17, 243, 2, 17, 251, 2, 2}, title[] = {4, 69}, label[] = {12, 165};
     fill(doc, shade, SHADE);
-    ANSWERED(edit(table, TABLE, doc, PLACES, SHADE, 3, 3, rows, 10), 0, 0, SHADE + 3, 3, 2 + 2 + 1 + 1);
-    ANSWERED(edit(table, TABLE, doc, PLACES, SHADE + 3, 3, 0, shade, SHADE), 0, 0, SHADE, -3, 2 + 1 + 1);
-    ANSWERED(edit(table, TABLE, doc, PLACES, SHADE, 3, 7, rows + 7, 1), 0, 0, SHADE, 0, 1);
-    ANSWERED(edit(table, TABLE, doc, PLACES, SHADE, 4, 0, title, 2), 0, 0, SHADE, 0, 2);
-    ANSWERED(edit(table, TABLE, doc, PLACES, SHADE, 4, 3, label, 2), 0, 0, SHADE, 0, 1);
+    ANSWERED(edit(table, TABLE, doc, PLACES, SHADE, 3, 3, rows, 10, back, PLACES), 0, 0, SHADE + 3, 3, 2 + 2 + 1 + 1);
+    ANSWERED(edit(table, TABLE, doc, PLACES, SHADE + 3, 3, 0, shade, SHADE, back, PLACES), 0, 0, SHADE, -3, 2 + 1 + 1);
+    ANSWERED(edit(table, TABLE, doc, PLACES, SHADE, 3, 7, rows + 7, 1, back, PLACES), 0, 0, SHADE, 0, 1);
+    ANSWERED(edit(table, TABLE, doc, PLACES, SHADE, 4, 0, title, 2, back, PLACES), 0, 0, SHADE, 0, 2);
+    ANSWERED(edit(table, TABLE, doc, PLACES, SHADE, 4, 3, label, 2, back, PLACES), 0, 0, SHADE, 0, 1);
+}
+
+/* ---- steps back: element 0 has any number of elements 1, and attributes 0 and 1 that may be absent, 1 of IDREFS; element 1 has an ID */
+
+static const uint8_t free_schema[] = {2, 0, 2, 2, 3, 6, 2, 0, 0, 1, 1, 3, 1, 0, 1, 2, 1, 0};
+static const uint32_t free_doc[] = {1, 12, 165, 173, 9, 20, 165, 2, 9, 20, 173, 2, 9, 20, 189, 2, 2};
+enum { FREE = sizeof free_doc / sizeof *free_doc };
+static uint64_t free_table[TABLE];
+
+/* An edit that is done, if the second buffer has the room that `inverse` takes, and then writes that there. Taken back it leaves the document
+ * as it was, and in the other buffer the edit itself. */
+static void taken_back(int line, uint32_t operation, uint64_t place, const uint32_t *piece, size_t n, const uint32_t *inverse, size_t room) {
+    uint32_t doc[PLACES], back[PLACES], due[PLACES], other[PLACES];
+    fill(doc, free_doc, FREE);
+    fill(due, free_doc, FREE);
+    fill(back, NULL, 0);
+    fill(other, NULL, 0);
+    for (size_t less = 0; less < room; less++)
+        answered(line, edit(free_table, TABLE, doc, PLACES, FREE, operation, place, piece, n, back, less), 5, 0, FREE, 0, 0);
+    bytes_same(line, doc, due, sizeof doc);
+    bytes_same(line, back, other, sizeof back);
+    shrike_answer there = edit(free_table, TABLE, doc, PLACES, FREE, operation, place, piece, n, back, room);
+    same(line, "number", there.number, 0);
+    fill(due, inverse, room);
+    bytes_same(line, back, due, sizeof back);
+    shrike_answer again = edit(free_table, TABLE, doc, PLACES, there.used, back[0], back[1], back + 3, back[2], other, 3 + n);
+    same(line, "number", again.number, 0);
+    same(line, "used", again.used, FREE);
+    same(line, "change", (uint64_t)(int64_t)again.change, (uint64_t)-(int64_t)there.change);
+    bytes_same(line, doc, free_doc, sizeof free_doc);
+    same(line, "operation", other[0], operation);
+    same(line, "place", other[1], place);
+    same(line, "count", other[2], n);
+    if (n > 0) bytes_same(line, other + 3, piece, n * sizeof *piece);
+    same(line, "behind", other[3 + n], FILLED);
+}
+#define TAKEN_BACK(operation, place, piece, n, inverse) taken_back(__LINE__, operation, place, piece, n, inverse, sizeof inverse / 4)
+
+static void steps_back(void) {
+    static const uint32_t child[] = {9, 20, 181, 2}, root[] = {1, 2}, title[] = {4, 61}, reference[] = {12, 173};
+    static const uint32_t to_insert[] = {2, 4, 0}, to_remove[] = {1, 12, 4, 9, 20, 189, 2}, to_replace[] = {3, 12, 4, 9, 20, 189, 2};
+    static const uint32_t to_replace_all[] = {3, 0, FREE, 1, 12, 165, 173, 9, 20, 165, 2, 9, 20, 173, 2, 9, 20, 189, 2, 2};
+    static const uint32_t to_add[] = {5, 0, 1, 4}, to_set[] = {4, 0, 3, 12, 165, 173};
+    SAME("number", translate(free_schema, sizeof free_schema, free_table, TABLE), 0);
+    JUDGED(check(free_table, TABLE, free_doc, FREE, FREE), 0, 0);
+    TAKEN_BACK(1, 4, child, 4, to_insert);
+    TAKEN_BACK(2, 12, NULL, 0, to_remove);
+    TAKEN_BACK(3, 12, child, 4, to_replace);
+    TAKEN_BACK(3, 0, root, 2, to_replace_all);
+    TAKEN_BACK(4, 0, title, 2, to_add);
+    TAKEN_BACK(4, 0, reference, 2, to_set);
+    TAKEN_BACK(4, 0, free_doc + 1, 3, to_set);
+    TAKEN_BACK(5, 0, reference, 1, to_set);
 }
 
 /* ---- two tables: the small shade, and with (use, use, panel)? in place of (panel+, use*) */
@@ -317,9 +378,10 @@ static void comparisons(void) {
 /* Lengths over 2^32: what is lent beyond the first page must not be touched. */
 static int lengths(void) {
     uint32_t *tokens = (uint32_t *)reserve((OVER + 1) * sizeof *tokens, 1);
+    uint32_t *back = (uint32_t *)reserve(OVER * sizeof *back, 1);
     uint8_t *bytes = (uint8_t *)reserve(OVER, 1);
     const uint64_t *words = (const uint64_t *)reserve((OVER + TABLE) * sizeof *words, 0);
-    if (!tokens || !bytes || !words) return 0;
+    if (!tokens || !back || !bytes || !words) return 0;
     COUNTED(read_file(file, FILE_LENGTH, tokens, OVER), 0, SHADE);
     BYTES(tokens, shade, sizeof shade);
     COUNTED(write_file(shade, SHADE, bytes, OVER), 0, FILE_LENGTH);
@@ -335,15 +397,17 @@ static int lengths(void) {
     SAME("number", translate(schema, SCHEMA, (uint64_t *)words, OVER + TABLE), 13);
     JUDGED(check(table, TABLE, tokens, OVER, SHADE), 0, 0);
     JUDGED(check(words, OVER + TABLE, tokens, OVER, SHADE), 13, 0);
-    ANSWERED(edit(table, TABLE, tokens, OVER, SHADE, 2, 10, NULL, 0), 0, 0, 11, -4, 1);
-    ANSWERED(edit(words, OVER + TABLE, tokens, OVER, 11, 2, 10, NULL, 0), 13, 0, 11, 0, 0);
+    ANSWERED(edit(table, TABLE, tokens, OVER, SHADE, 2, 10, NULL, 0, back, OVER), 0, 0, 11, -4, 1);
+    SAME("operation", back[0], 1);
+    BYTES(back + 3, shade + 10, back[2] * sizeof *back);
+    ANSWERED(edit(words, OVER + TABLE, tokens, OVER, 11, 2, 10, NULL, 0, back, OVER), 13, 0, 11, 0, 0);
     COMPARED(compare(words, OVER + TABLE, table, TABLE, 0, tokens, OVER), 13, 0, 0);
     COMPARED(compare(table, TABLE, words, OVER + TABLE, 0, tokens, OVER), 13, 0, 0);
     COMPARED(compare(table, TABLE, new_table, TABLE, 0, tokens, OVER), 0, 0, 1);
     uint32_t doc[PLACES];
     fill(doc, shade, SHADE);
     tokens[0] = 9;
-    ANSWERED(edit(table, TABLE, doc, PLACES, SHADE, 2, 10, tokens, OVER), 4, 0, SHADE, 0, 0);
+    ANSWERED(edit(table, TABLE, doc, PLACES, SHADE, 2, 10, tokens, OVER, back, OVER), 4, 0, SHADE, 0, 0);
     return 1;
 }
 
@@ -355,6 +419,7 @@ int main(void) {
     checks();
     edits();
     children();
+    steps_back();
     comparisons();
     if (!lengths()) return 1;
     return told();

@@ -239,11 +239,14 @@ static void tables(void) {
 static const uint32_t shade[] = {S(0), A(0), V(7), S(1), A(1), V(20), S(2), T(30), E, E, S(3), A(2), V(20), E, E};
 static const uint32_t panel[] = {S(1), A(1), V(21), E}, row[] = {T(31)}, title[] = {A(0), V(8)}, label[] = {A(1)};
 
+static uint32_t back[SHRIKE_MOST_BACK];
+
 /* Tries an edit of a document, of the shade's length, in a fresh buffer. */
 static shrike_answer edited(const uint32_t *doc, uint32_t operation, uint64_t place, const uint32_t *piece, size_t n) {
     begin();
     for (size_t i = 0; i < LENGTH(shade); i++) put(doc[i], 1);
-    return shrike_edit(table, SHRIKE_TABLE_WORDS, numbers, SHRIKE_MOST_TOKENS, LENGTH(shade), operation, place, piece, n);
+    return shrike_edit(table, SHRIKE_TABLE_WORDS, numbers, SHRIKE_MOST_TOKENS, LENGTH(shade), operation, place, piece, n, back,
+                       SHRIKE_MOST_BACK);
 }
 
 static void operations(void) {
@@ -253,10 +256,14 @@ static void operations(void) {
            SHRIKE_TEXT_ONLY, 0, SHRIKE_EMPTY, 1, 2, SHRIKE_IDREF, SHRIKE_REQUIRED);
     JUDGED(checked(shade, LENGTH_NOW), SHRIKE_DONE, 0);
     ANSWERED(edited(shade, SHRIKE_INSERT, 10, panel, LENGTH(panel)), SHRIKE_DONE, 0, LENGTH_NOW + 4, 4, 3);
+    SAME("taken back", back[0], SHRIKE_REMOVE);
     ANSWERED(edited(shade, SHRIKE_REMOVE, 10, NULL, 0), SHRIKE_DONE, 0, LENGTH_NOW - 4, -4, 1);
+    SAME("taken back", back[0], SHRIKE_INSERT);
     ANSWERED(edited(shade, SHRIKE_REPLACE, 7, row, LENGTH(row)), SHRIKE_DONE, 0, LENGTH_NOW, 0, 1);
+    SAME("taken back", back[0], SHRIKE_REPLACE);
     BYTES(numbers + 7, row, sizeof row);
     ANSWERED(edited(shade, SHRIKE_SET, 0, title, LENGTH(title)), SHRIKE_DONE, 0, LENGTH_NOW, 0, 2);
+    SAME("taken back", back[0], SHRIKE_SET);
     BYTES(numbers + 1, title, sizeof title);
     ANSWERED(edited(shade, SHRIKE_DROP, 3, label, LENGTH(label)), SHRIKE_ATTRIBUTES, 3, LENGTH_NOW, 0, 0);
     ANSWERED(edited(shade, SHRIKE_INSERT, 1, panel, LENGTH(panel)), SHRIKE_PLACE, 0, LENGTH_NOW, 0, 0);
@@ -269,6 +276,20 @@ static void operations(void) {
     ANSWERED(edited(unnamed, SHRIKE_REMOVE, 6, NULL, 0), SHRIKE_NAME, 3, LENGTH_NOW, 0, 0);
     DOCUMENT(SHRIKE_ROOT, 0, S(1), A(1), V(20), E);
     JUDGED(shrike_check(table, SHRIKE_TABLE_WORDS - 1, shade, LENGTH_NOW, LENGTH_NOW), SHRIKE_TABLE, 0);
+}
+
+/* The longest step back: from a root that takes the place of as many tokens as a document can have. */
+static shrike_answer all_replaced(size_t back_room) {
+    const uint32_t root[] = {S(0), E};
+    nested(1, SHRIKE_MOST_TOKENS / 2 - 1);
+    return shrike_edit(table, SHRIKE_TABLE_WORDS, numbers, made, made, SHRIKE_REPLACE, 0, root, 2, back, back_room);
+}
+
+static void steps_back(void) {
+    SCHEMA(SHRIKE_DONE, 1, 0, SHRIKE_MODEL, 2, SHRIKE_ZERO_OR_MORE, NAME(0), 0);
+    ANSWERED(all_replaced(SHRIKE_MOST_BACK - 1), SHRIKE_ROOM, 0, SHRIKE_MOST_TOKENS, 0, 0);
+    ANSWERED(all_replaced(SHRIKE_MOST_BACK), SHRIKE_DONE, 0, 2, 2 - SHRIKE_MOST_TOKENS, 0);
+    SAME("tokens that went", back[2], SHRIKE_MOST_TOKENS);
 }
 
 /* The answers that nothing above has. */
@@ -351,6 +372,7 @@ int main(void) {
     limits_of_documents();
     tables();
     operations();
+    steps_back();
     answers();
     texts();
     comparisons();

@@ -50,9 +50,10 @@ shrike_verdict shrike_check(const uint64_t *table, size_t words, const uint32_t 
 }
 
 shrike_answer shrike_edit(const uint64_t *table, size_t words, uint32_t *doc, size_t room, uint64_t used, uint32_t operation,
-                          uint64_t place, const uint32_t *piece, size_t n) {
+                          uint64_t place, const uint32_t *piece, size_t n, uint32_t *back, size_t back_room) {
     shrike_answer r = {answer("edit"), 0, used, 0, 0};
-    return (void)table, (void)words, (void)doc, (void)room, (void)operation, (void)place, (void)piece, (void)n, r;
+    (void)table, (void)words, (void)doc, (void)room, (void)operation, (void)place, (void)piece, (void)n, (void)back, (void)back_room;
+    return r;
 }
 
 shrike_compared shrike_compare(const uint64_t *old_table, size_t old_words, const uint64_t *new_table, size_t new_words, uint32_t element,

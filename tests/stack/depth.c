@@ -92,7 +92,9 @@ static void *checks(void *answer) {
 
 static void *edits(void *answer) {
     static const uint32_t piece[] = {1 * 8 + 1, 2};
-    shrike_answer r = shrike_edit(table, SHRIKE_TABLE_WORDS, doc, SHRIKE_MOST_TOKENS, used, 1, used - 1, piece, 2);
+    static uint32_t back[SHRIKE_MOST_BACK];
+    shrike_answer r =
+        shrike_edit(table, SHRIKE_TABLE_WORDS, doc, SHRIKE_MOST_TOKENS, used, 1, used - 1, piece, 2, back, SHRIKE_MOST_BACK);
     *(uint32_t *)answer = r.number;
     return answer;
 }

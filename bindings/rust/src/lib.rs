@@ -5,8 +5,8 @@
 //! less than 133,000 bytes of the stack.
 //!
 //! ```
-//! use shrikemuff::numbers::{MOST_TOKENS, TEXT_ONLY};
-//! use shrikemuff::{read, token, write, Edit, Refusal, Table};
+//! use shrikemuff::numbers::TEXT_ONLY;
+//! use shrikemuff::{read, token, write, Edit, Refusal, Table, MOST_BACK, MOST_TOKENS};
 //!
 //! let mut schema = [0; 4];
 //! write(&[1, 0, TEXT_ONLY, 0], &mut schema).unwrap(); // one element, 0, with text
@@ -15,10 +15,12 @@
 //! let used = read(&[1, 11, 2], &mut doc).unwrap();
 //! assert_eq!(doc[..used], [token::start(0), token::text(1), token::end()]);
 //! assert_eq!(table.check(&doc, used), Ok(()));
-//! let fault = table.edit(&mut doc, used, Edit::insert(1, &[token::text(2)])).unwrap_err();
+//! let mut back = vec![0; MOST_BACK];
+//! let fault = table.edit(&mut doc, used, Edit::insert(1, &[token::text(2)]), &mut back).unwrap_err();
 //! assert_eq!((fault.refusal, fault.place), (Refusal::Content, 2)); // a second text
-//! let done = table.edit(&mut doc, used, Edit::remove(1)).unwrap();
+//! let done = table.edit(&mut doc, used, Edit::remove(1), &mut back).unwrap();
 //! assert_eq!((done.used, done.change, done.children), (2, -1, 0));
+//! assert_eq!(done.back, Edit::insert(1, &[token::text(1)]));
 //! ```
 //!
 //! # Another library than the one that this was written for
@@ -31,6 +33,7 @@
 use std::fmt;
 
 mod dtd;
+mod edit;
 mod refusal;
 
 #[allow(missing_docs)]
@@ -40,7 +43,8 @@ pub mod raw;
 pub mod token;
 
 pub use dtd::{import, import_spot, names, Spot};
-pub use numbers::{MOST_BYTES, MOST_SCHEMA_FILE, MOST_TOKENS, SEQUENCE_PLACES, TABLE_WORDS, VERSION};
+pub use edit::{Done, Edit};
+pub use numbers::{MOST_BACK, MOST_BYTES, MOST_SCHEMA_FILE, MOST_TOKENS, SEQUENCE_PLACES, TABLE_WORDS, VERSION};
 pub use refusal::{Fault, Refusal};
 
 #[cfg(not(target_pointer_width = "64"))]
@@ -83,57 +87,6 @@ pub fn write(tokens: &[u32], file: &mut [u8]) -> Result<usize, Refusal> {
     Refusal::of(r.number).map(|()| r.count as usize)
 }
 
-/// An edit: what is done, where, and with which tokens. Any numbers may stand in it; a wrong one is refused.
-#[derive(Clone, Copy, Debug, PartialEq, Eq)]
-pub struct Edit<'a> {
-    /// one of [`numbers::INSERT`], `REMOVE`, `REPLACE`, `SET` and `DROP`
-    pub operation: u32,
-    /// the index of a token
-    pub place: usize,
-    /// the tokens that come, or name what goes
-    pub piece: &'a [u32],
-}
-
-impl<'a> Edit<'a> {
-    /// One element or one text goes before the token at a place.
-    pub fn insert(place: usize, piece: &'a [u32]) -> Edit<'a> {
-        Edit { operation: numbers::INSERT, place, piece }
-    }
-
-    /// The element or the text at a place goes.
-    pub fn remove(place: usize) -> Edit<'a> {
-        Edit { operation: numbers::REMOVE, place, piece: &[] }
-    }
-
-    /// One element or one text takes the place of the one at a place.
-    pub fn replace(place: usize, piece: &'a [u32]) -> Edit<'a> {
-        Edit { operation: numbers::REPLACE, place, piece }
-    }
-
-    /// An attribute and its values are added to the element at a place, or take the place of those there.
-    pub fn set(place: usize, piece: &'a [u32]) -> Edit<'a> {
-        Edit { operation: numbers::SET, place, piece }
-    }
-
-    /// The attribute whose token is the piece goes from the element at a place, with its values.
-    pub fn drop(place: usize, piece: &'a [u32]) -> Edit<'a> {
-        Edit { operation: numbers::DROP, place, piece }
-    }
-}
-
-/// An edit that was done.
-#[derive(Clone, Copy, Debug, PartialEq, Eq)]
-#[non_exhaustive]
-pub struct Done {
-    /// the document's new length
-    pub used: usize,
-    /// the new length less the old
-    pub change: i32,
-    /// the children looked at: children and texts of the touched parent, or of the element that is set or dropped, in the edited document,
-    /// and of every element in the piece
-    pub children: usize,
-}
-
 /// A schema's table.
 #[derive(Clone, PartialEq, Eq)]
 pub struct Table {
@@ -169,8 +122,39 @@ impl Table {
         Fault::of(r.number, r.place)
     }
 
-    /// Edits the document in the first `used` places of `doc`. A refusal leaves it as it was.
-    pub fn edit(&self, doc: &mut [u32], used: usize, edit: Edit<'_>) -> Result<Done, Fault> {
+    /// Edits the document in the first `used` places of `doc`, and writes the edit that takes this one back into the first places of `back`:
+    /// [`Done::back`] is read from there. Later places of `back` keep their contents, and [`MOST_BACK`] places are always enough. A refusal
+    /// leaves both as they were.
+    ///
+    /// From a valid document, an edit that was done can always be taken back, and that again, and a whole run of edits, the last one first:
+    ///
+    /// ```
+    /// use shrikemuff::numbers::{CDATA, EMPTY, IMPLIED};
+    /// use shrikemuff::{token, write, Edit, Table, MOST_BACK};
+    ///
+    /// let mut schema = [0; 7];
+    /// write(&[1, 0, EMPTY, 1, 0, CDATA, IMPLIED], &mut schema).unwrap(); // one element, 0, with an attribute, 0
+    /// let table = Table::translate(&schema).unwrap();
+    /// let mut doc = [token::start(0), token::end(), 0, 0];
+    /// let mut used = 2;
+    /// let mut back = [0; MOST_BACK];
+    ///
+    /// let mut steps: Vec<Vec<u32>> = Vec::new(); // an undo stack
+    /// for value in [7, 8, 9] {
+    ///     let piece = [token::attribute(0), token::value(value)];
+    ///     let done = table.edit(&mut doc, used, Edit::set(0, &piece), &mut back).unwrap();
+    ///     used = done.used;
+    ///     steps.push(done.back.numbers().collect());
+    /// }
+    /// assert_eq!(Edit::read(&steps[2]), Some(Edit::set(0, &[token::attribute(0), token::value(8)])));
+    /// assert_eq!(Edit::read(&steps[0]), Some(Edit::drop(0, &[token::attribute(0)])));
+    /// while let Some(step) = steps.pop() {
+    ///     let done = table.edit(&mut doc, used, Edit::read(&step).unwrap(), &mut back).unwrap();
+    ///     used = done.used;
+    /// }
+    /// assert_eq!(doc[..used], [token::start(0), token::end()]);
+    /// ```
+    pub fn edit<'b>(&self, doc: &mut [u32], used: usize, edit: Edit<'_>, back: &'b mut [u32]) -> Result<Done<'b>, Fault> {
         served()?;
         // SAFETY: as in `read`.
         let r = unsafe {
@@ -184,9 +168,13 @@ impl Table {
                 edit.place as u64,
                 edit.piece.as_ptr(),
                 edit.piece.len(),
+                back.as_mut_ptr(),
+                back.len(),
             )
         };
-        Fault::of(r.number, r.place).map(|()| Done { used: r.used as usize, change: r.change, children: r.children as usize })
+        Fault::of(r.number, r.place)?;
+        let back = Edit::read(back).expect("an edit that is done writes the one that takes it back");
+        Ok(Done { used: r.used as usize, change: r.change, children: r.children as usize, back })
     }
 }
 

@@ -17,6 +17,7 @@ pub const MOST_SYMBOLS: usize = 255;
 pub const MOST_NAMES: usize = 64;
 pub const MOST_ATTRIBUTES: usize = 64;
 pub const MOST_SCHEMA_FILE: usize = 21_650;
+pub const MOST_BACK: usize = 8_195;
 
 // Sorts of tokens.
 pub const START: u32 = 1;

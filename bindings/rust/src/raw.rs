@@ -63,6 +63,8 @@ extern "C" {
         place: u64,
         piece: *const u32,
         n: usize,
+        back: *mut u32,
+        back_room: usize,
     ) -> Answer;
     pub fn shrike_compare(
         old_table: *const u64,

@@ -14,7 +14,7 @@ fn refusals() -> Vec<Option<Refusal>> {
         import_spot(&[]).err().map(|spot| spot.refusal),
         Table::translate(&[]).err(),
         table.check(&doc, 0).err().map(|fault| fault.refusal),
-        table.edit(&mut doc, 0, Edit::remove(1)).err().map(|fault| fault.refusal),
+        table.edit(&mut doc, 0, Edit::remove(1), &mut [0; 3]).err().map(|fault| fault.refusal),
         compare(&table, &table, 0, &mut []).err(),
     ]
 }

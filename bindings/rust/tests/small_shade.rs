@@ -25,12 +25,14 @@ fn fault<T>(refusal: Refusal, place: usize) -> Result<T, Fault> {
 /// edit that is done leaves `left`, zeros up to the old length, and what was behind.
 #[track_caller]
 fn edited(edit: Edit<'_>, due: Result<(usize, i32, usize), Fault>, left: &[u32]) {
-    let mut doc = shade();
-    assert_eq!(table().edit(&mut doc, 15, edit).map(|done| (done.used, done.change, done.children)), due);
+    let (mut doc, mut back) = (shade(), [BEHIND; 40]);
+    assert_eq!(table().edit(&mut doc, 15, edit, &mut back).map(|done| (done.used, done.change, done.children)), due);
     let mut expected = shade();
     if due.is_ok() {
         expected[..15].fill(0);
         expected[..left.len()].copy_from_slice(left);
+    } else {
+        assert_eq!(back, [BEHIND; 40]);
     }
     assert_eq!(doc, expected);
 }
@@ -108,8 +110,79 @@ fn edits() {
     edited(Edit { operation: 6, place: 3, piece: &[] }, fault(Place, 0), &[]);
     edited(Edit::insert(10, &panel[..3]), fault(Shape, 0), &[]);
     let mut short = SHADE;
-    assert_eq!(table().edit(&mut short, 15, Edit::insert(10, &panel)), fault(Room, 0));
+    assert_eq!(table().edit(&mut short, 15, Edit::insert(10, &panel), &mut [0; 3]), fault(Room, 0));
     assert_eq!(short, SHADE);
+}
+
+/// Makes an edit of a document that is done, and takes it back: `due` is the edit that does. The one that takes this back is the edit.
+#[track_caller]
+fn taken_back(table: &Table, tokens: &[u32], edit: Edit<'_>, due: Edit<'_>) {
+    let used = tokens.len();
+    let (mut doc, mut back, mut other) = (tokens.to_vec(), [BEHIND; 40], [BEHIND; 40]);
+    doc.resize(40, BEHIND);
+    let done = table.edit(&mut doc, used, edit, &mut back).unwrap();
+    assert_eq!(done.back, due);
+    let undone = table.edit(&mut doc, done.used, done.back, &mut other).unwrap();
+    assert_eq!((undone.used, undone.change), (used, -done.change));
+    assert_eq!(undone.back, edit);
+    assert_eq!(doc[..used], *tokens);
+    let numbers: Vec<u32> = due.numbers().collect();
+    assert_eq!(back[..numbers.len()], numbers);
+    assert!(back[numbers.len()..].iter().all(|&number| number == BEHIND));
+    // as much room as it takes, and no less: nothing is written then
+    let least = numbers.len();
+    assert_eq!(table.edit(&mut doc, used, edit, &mut other[..least - 1]), fault(Refusal::Room, 0));
+    assert_eq!(doc[..used], *tokens);
+    assert!(table.edit(&mut doc, used, edit, &mut other[..least]).is_ok());
+}
+
+#[test]
+fn steps_back() {
+    let panel = [9, 12, 173, 2];
+    let t = table();
+    taken_back(&t, &SHADE, Edit::insert(10, &panel), Edit::remove(10));
+    taken_back(&t, &SHADE, Edit::remove(10), Edit::insert(10, &SHADE[10..14]));
+    taken_back(&t, &SHADE, Edit::remove(7), Edit::insert(7, &[243]));
+    taken_back(&t, &SHADE, Edit::replace(6, &[17, 2]), Edit::replace(6, &SHADE[6..9]));
+    taken_back(&t, &SHADE, Edit::replace(0, &[1, 4, 61, 9, 12, 165, 2, 2]), Edit::replace(0, &SHADE));
+    taken_back(&t, &SHADE, Edit::set(0, &[4, 69]), Edit::set(0, &[4, 61]));
+    taken_back(&t, &SHADE, Edit::set(0, &[4, 61]), Edit::set(0, &[4, 61]));
+    // the root has two attributes that may be absent, the second one of many values; its children have an ID
+    let t = Table::translate(&[2, 0, 2, 2, 3, 6, 2, 0, 0, 1, 1, 3, 1, 0, 1, 2, 1, 0]).unwrap();
+    let doc = [1, 4, 61, 12, 165, 165, 9, 20, 165, 2, 2];
+    taken_back(&t, &doc, Edit::drop(0, &[12]), Edit::set(0, &[12, 165, 165]));
+    taken_back(&t, &doc, Edit::set(0, &[12, 165]), Edit::set(0, &[12, 165, 165]));
+    taken_back(&t, &[1, 4, 61, 9, 20, 165, 2, 2], Edit::set(0, &[12, 165, 165]), Edit::drop(0, &[12]));
+}
+
+/// A second buffer that is too short is refused after the place, and before the document is judged.
+#[test]
+fn short_second_buffers() {
+    let mut doc = shade();
+    let mut back = [BEHIND; 10];
+    for room in 0..10 {
+        assert_eq!(table().edit(&mut doc, 15, Edit::remove(3), &mut back[..room]), fault(Refusal::Room, 0));
+        assert_eq!(table().edit(&mut doc, 15, Edit::remove(15), &mut back[..room]), fault(Refusal::Place, 0));
+    }
+    assert_eq!(table().edit(&mut doc, 15, Edit::remove(3), &mut back), fault(Refusal::Content, 3));
+    assert_eq!(back, [BEHIND; 10]);
+    assert_eq!(doc, shade());
+}
+
+#[test]
+fn edits_as_numbers() {
+    let edit = Edit::insert(10, &[9, 12, 173, 2]);
+    let numbers: Vec<u32> = edit.numbers().collect();
+    assert_eq!(numbers, [1, 10, 4, 9, 12, 173, 2]);
+    assert_eq!(Edit::read(&[&numbers[..], &[BEHIND]].concat()), Some(edit));
+    for length in 0..7 {
+        assert_eq!(Edit::read(&numbers[..length]), None);
+    }
+    assert_eq!(Edit::read(&[2, u32::MAX, u32::MAX]), None);
+    assert_eq!(Edit::read(&[2, 3, 0]), Some(Edit::remove(3)));
+    assert!(Edit::remove(usize::MAX).numbers().eq([2, u32::MAX, 0]));
+    let largest = Edit::read(&[u32::MAX, u32::MAX, 0]).unwrap();
+    assert_eq!((largest.operation, largest.place), (u32::MAX, u32::MAX as usize));
 }
 
 #[test]
@@ -146,7 +219,10 @@ fn raw_lengths() {
     let mut doc = shade();
     let given = (1 << 40) + 15;
     // SAFETY: the pointers are those of live slices, with their lengths.
-    let r = unsafe { raw::shrike_edit(t.words().as_ptr(), TABLE_WORDS, doc.as_mut_ptr(), doc.len(), given, 2, 10, [].as_ptr(), 0) };
+    let r = unsafe {
+        let (words, doc, room) = (t.words().as_ptr(), doc.as_mut_ptr(), doc.len());
+        raw::shrike_edit(words, TABLE_WORDS, doc, room, given, 2, 10, [].as_ptr(), 0, [].as_mut_ptr(), 0)
+    };
     assert_eq!(r, raw::Answer { number: 4, place: 0, used: given, change: 0, children: 0 });
     assert_eq!(doc, shade());
 }

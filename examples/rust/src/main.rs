@@ -1,10 +1,12 @@
 //! A host in Rust: loads a schema, a document and edits from the files of a folder, and says in words what comes of each; of an edit that is
-//! done also how the length changed, and at how many children it looked.
+//! done also how the length changed, and at how many children it looked. Then it takes back all that were done, the last one first, and says
+//! whether the document is the first one again.
 //!
 //!     cargo run -- ../../samples/small-shade
 //!
-//! Ends with 0 once every edit was tried, and with 1 if the library, a file, the schema or the document is refused.
-use shrikemuff::{library_version, numbers, read, serves, Edit, Refusal, Table, MOST_TOKENS};
+//! Ends with 0 once every edit was tried and taken back, and with 1 if the library, a file, the schema or the document is refused, or if the
+//! document is another one in the end.
+use shrikemuff::{library_version, numbers, read, serves, Edit, Refusal, Table, MOST_BACK, MOST_TOKENS};
 use std::fs::File;
 use std::io::Read;
 use std::path::Path;
@@ -64,6 +66,50 @@ fn name(operation: u32) -> &'static str {
     }
 }
 
+/// A document by its table.
+struct Document {
+    table: Table,
+    tokens: Vec<u32>,
+    used: usize,
+}
+
+impl Document {
+    /// Makes an edit, and says what comes of it: the edit that takes it back, if it is done.
+    fn edit<'b>(&mut self, what: String, edit: Edit<'_>, back: &'b mut [u32]) -> Option<Edit<'b>> {
+        let what = format!("{what}, {} at {}", name(edit.operation), edit.place);
+        match self.table.edit(&mut self.tokens, self.used, edit, back) {
+            Ok(done) => {
+                self.used = done.used;
+                println!("{what}: done, {} tokens, {:+}, looked at {}", done.used, done.change, done.children);
+                Some(done.back)
+            }
+            Err(fault) => {
+                println!("{what}: refused, {fault}, {} tokens", self.used);
+                None
+            }
+        }
+    }
+
+    /// Makes all edits of a file, and takes back those that were done, the last one first.
+    fn there_and_back(&mut self, mut file: &[u8]) -> Result<(), Refusal> {
+        let mut steps: Vec<(u32, Vec<u32>)> = Vec::new();
+        let (mut piece, mut back) = (Vec::new(), vec![0; MOST_BACK]);
+        let mut line = 0;
+        while !file.is_empty() {
+            line += 1;
+            let edit = next_edit(&mut file, &mut piece)?;
+            if let Some(step) = self.edit(format!("edit {line}"), edit, &mut back) {
+                steps.push((line, step.numbers().collect()));
+            }
+        }
+        while let Some((line, step)) = steps.pop() {
+            let edit = Edit::read(&step).expect("the numbers of an edit");
+            self.edit(format!("back from edit {line}"), edit, &mut back);
+        }
+        Ok(())
+    }
+}
+
 /// Says what comes of everything; or what stops the program.
 fn run(folder: &Path) -> Result<(), String> {
     let version = library_version();
@@ -75,26 +121,18 @@ fn run(folder: &Path) -> Result<(), String> {
     let edits = load(folder, "edits.dat")?;
 
     let table = Table::translate(&schema).map_err(|refusal| format!("schema: refused, {refusal}"))?;
-    let mut doc = vec![0; MOST_TOKENS];
-    let mut used = read(&document, &mut doc).map_err(|refusal| format!("document: refused, {refusal}"))?;
-    table.check(&doc, used).map_err(|fault| format!("check: refused, {fault}, {used} tokens"))?;
+    let mut tokens = vec![0; MOST_TOKENS];
+    let used = read(&document, &mut tokens).map_err(|refusal| format!("document: refused, {refusal}"))?;
+    table.check(&tokens, used).map_err(|fault| format!("check: refused, {fault}, {used} tokens"))?;
     println!("check: valid, {used} tokens");
 
-    let mut rest = &edits[..];
-    let mut piece = Vec::new();
-    let mut line = 0;
-    while !rest.is_empty() {
-        line += 1;
-        let edit = next_edit(&mut rest, &mut piece).map_err(|refusal| format!("edits: refused, {refusal}"))?;
-        let what = format!("edit {line}, {} at {}", name(edit.operation), edit.place);
-        match table.edit(&mut doc, used, edit) {
-            Ok(done) => {
-                used = done.used;
-                println!("{what}: done, {used} tokens, {:+}, looked at {}", done.change, done.children);
-            }
-            Err(fault) => println!("{what}: refused, {fault}, {used} tokens"),
-        }
+    let first = tokens[..used].to_vec();
+    let mut document = Document { table, tokens, used };
+    document.there_and_back(&edits).map_err(|refusal| format!("edits: refused, {refusal}"))?;
+    if document.tokens[..document.used] != first {
+        return Err(format!("document: not the first one, {} tokens", document.used));
     }
+    println!("document: the first one again, {} tokens", document.used);
     Ok(())
 }
 
