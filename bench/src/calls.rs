@@ -48,7 +48,8 @@ pub struct Edit {
     pub piece: Vec<u32>,
 }
 
-/// What the core and the plain version both do. A buffer is the whole slice; `used` says how much of it is the document.
+/// What the core and the plain version both do. A buffer is the whole slice; `used` says how much of it is the document. An edit writes the
+/// one that takes it back into `back`.
 pub trait Calls {
     fn name(&self) -> &'static str;
     fn read(&self, file: &[u8], tokens: &mut [u32]) -> Count;
@@ -58,6 +59,7 @@ pub trait Calls {
     fn import_spot(&self, text: &[u8]) -> Spot;
     fn translate(&self, file: &[u8], table: &mut [u64]) -> u32;
     fn check(&self, table: &[u64], buffer: &[u32], used: u64) -> Verdict;
-    fn edit(&self, table: &[u64], buffer: &mut [u32], used: u64, operation: u32, place: u64, piece: &[u32]) -> Answer;
+    #[allow(clippy::too_many_arguments)]
+    fn edit(&self, table: &[u64], buffer: &mut [u32], used: u64, operation: u32, place: u64, piece: &[u32], back: &mut [u32]) -> Answer;
     fn compare(&self, old: &[u64], new: &[u64], element: u32, sequence: &mut [u32]) -> Compared;
 }

@@ -1,7 +1,7 @@
 //! What is timed: inputs, how each contender runs them, and whether the contenders agree.
 
 use bench::calls::{Answer, Calls, Compared, Count, Edit, Spot, Verdict};
-use bench::plain::{PLACES, WORDS};
+use bench::plain::{BACK, PLACES, WORDS};
 use std::rc::Rc;
 
 #[cfg(feature = "libxml2")]
@@ -84,8 +84,8 @@ struct Outcome {
     table: Vec<u64>,
 }
 
-fn edit(calls: &dyn Calls, table: &[u64], buffer: &mut [u32], used: u64, edit: &Edit) -> Answer {
-    calls.edit(table, buffer, used, edit.operation, edit.place, from_outside(&edit.piece[..]))
+fn edit(calls: &dyn Calls, table: &[u64], buffer: &mut [u32], used: u64, edit: &Edit, back: &mut [u32]) -> Answer {
+    calls.edit(table, buffer, used, edit.operation, edit.place, from_outside(&edit.piece[..]), back)
 }
 
 impl Input {
@@ -129,18 +129,19 @@ impl Input {
                 outcome.verdicts[0].number == *number
             }
             Input::Pair { table, buffer, used, edit: there, back, .. } => {
-                let mut lent = buffer.clone();
-                let done = edit(calls, table, &mut lent, *used, there);
+                let (mut lent, mut noted) = (buffer.clone(), [vec![7; BACK], vec![7; BACK]]);
+                let done = edit(calls, table, &mut lent, *used, there, &mut noted[0]);
                 outcome.tokens.push(lent.clone());
-                let undone = edit(calls, table, &mut lent, done.used, back);
+                let undone = edit(calls, table, &mut lent, done.used, back, &mut noted[1]);
                 outcome.answers.extend([done, undone]);
                 outcome.tokens.push(lent);
+                outcome.tokens.extend(noted);
                 done.number == 0 && undone.number == 0 && outcome.tokens[1] == *buffer
             }
             Input::Refused { table, buffer, used, edit: refused, number } => {
-                let mut lent = buffer.clone();
-                outcome.answers.push(edit(calls, table, &mut lent, *used, refused));
-                outcome.tokens.push(lent);
+                let (mut lent, mut noted) = (buffer.clone(), vec![7; BACK]);
+                outcome.answers.push(edit(calls, table, &mut lent, *used, refused, &mut noted));
+                outcome.tokens.extend([lent, noted]);
                 outcome.answers[0].number == *number && outcome.tokens[0] == *buffer
             }
             Input::Read { file, tokens } => {
@@ -197,19 +198,19 @@ impl Input {
                 repeat(count, || assert_eq!(calls.check(from_outside(&table[..]), from_outside(&buffer[..]), *used).number, *number))
             }),
             Input::Pair { table, buffer, used, edit: there, back, .. } => {
-                let mut state = (buffer.clone(), *used);
-                let step = move |(buffer, used): &mut (Vec<u32>, u64), step: &Edit| {
-                    let answer = edit(calls, from_outside(&table[..]), buffer, *used, step);
+                let mut state = (buffer.clone(), *used, vec![0; BACK]);
+                let step = move |(buffer, used, noted): &mut (Vec<u32>, u64, Vec<u32>), step: &Edit| {
+                    let answer = edit(calls, from_outside(&table[..]), buffer, *used, step, noted);
                     assert_eq!(answer.number, 0);
                     *used = answer.used;
                 };
                 Box::new(move |count| repeat_pair(count, &mut state, |state| step(state, there), |state| step(state, back)))
             }
             Input::Refused { table, buffer, used, edit: refused, number } => {
-                let mut buffer = buffer.clone();
+                let (mut buffer, mut noted) = (buffer.clone(), vec![0; BACK]);
                 Box::new(move |count| {
                     repeat(count, || {
-                        assert_eq!(edit(calls, from_outside(&table[..]), &mut buffer, *used, refused).number, *number);
+                        assert_eq!(edit(calls, from_outside(&table[..]), &mut buffer, *used, refused, &mut noted).number, *number);
                     })
                 })
             }

@@ -2,7 +2,7 @@
 
 use bench::calls::{Calls, Edit};
 use bench::documents::{file, Dice, Mix, MIXES};
-use bench::plain::{PLACES, WORDS};
+use bench::plain::{BACK, PLACES, WORDS};
 use bench::texts;
 
 const TOKENS: usize = 420;
@@ -73,9 +73,10 @@ fn agree_once(contenders: &[&dyn Calls], mix: Mix, dice: &mut Dice) -> Result<()
     let mut buffer = tokens.clone();
     buffer.resize(tokens.len() + dice.below(12) as usize, 7);
     let edit = any_edit(&tokens, dice);
+    let room = if dice.below(4) == 0 { dice.below(12) as usize } else { BACK };
     same("edit", contenders, |calls| {
-        let mut lent = buffer.clone();
-        (calls.edit(&table, &mut lent, used, edit.operation, edit.place, &edit.piece), lent)
+        let (mut lent, mut back) = (buffer.clone(), vec![7; room]);
+        (calls.edit(&table, &mut lent, used, edit.operation, edit.place, &edit.piece, &mut back), lent, back)
     })?;
 
     let mut bytes = file(&tokens);

@@ -12,7 +12,7 @@ mod timing;
 
 use bench::calls::{Calls, Edit};
 use bench::documents::{self, Mix, MIXES, SPOTS};
-use bench::plain::{Keys, Plain, WORDS};
+use bench::plain::{Keys, Plain, BACK, WORDS};
 use bench::texts;
 use bench::xml;
 use cases::Input;
@@ -175,7 +175,8 @@ fn cases_of(mix: Mix) -> Vec<Case> {
 /// The used tokens after an edit that is done, by the plain version.
 fn edited(table: &[u64], buffer: &[u32], used: usize, edit: &Edit) -> Vec<u32> {
     let mut lent = buffer.to_vec();
-    let answer = Plain { keys: Keys::Field }.edit(table, &mut lent, used as u64, edit.operation, edit.place, &edit.piece);
+    let plain = Plain { keys: Keys::Field };
+    let answer = plain.edit(table, &mut lent, used as u64, edit.operation, edit.place, &edit.piece, &mut [0; BACK]);
     if answer.number != 0 {
         stop("the plain version refuses an edit that is to be done");
     }

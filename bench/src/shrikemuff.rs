@@ -44,10 +44,10 @@ impl Calls for Core {
         Verdict { number: said.number, place: said.place }
     }
 
-    fn edit(&self, table: &[u64], buffer: &mut [u32], used: u64, operation: u32, place: u64, piece: &[u32]) -> Answer {
-        let (words, room, n) = (table.len(), buffer.len(), piece.len());
-        let (table, doc, piece) = (table.as_ptr(), buffer.as_mut_ptr(), piece.as_ptr());
-        let said = unsafe { raw::shrike_edit(table, words, doc, room, used, operation, place, piece, n) };
+    fn edit(&self, table: &[u64], buffer: &mut [u32], used: u64, operation: u32, place: u64, piece: &[u32], back: &mut [u32]) -> Answer {
+        let (words, room, n, back_room) = (table.len(), buffer.len(), piece.len(), back.len());
+        let (table, doc, piece, back) = (table.as_ptr(), buffer.as_mut_ptr(), piece.as_ptr(), back.as_mut_ptr());
+        let said = unsafe { raw::shrike_edit(table, words, doc, room, used, operation, place, piece, n, back, back_room) };
         Answer { number: said.number, place: said.place, used: said.used, change: said.change, children: said.children }
     }
 

@@ -2,7 +2,7 @@
 
 use super::{dense_schema, file, with_last_element_wrong, with_other_root, MIXES, SMALL_SHADE, SPOTS};
 use crate::calls::Calls;
-use crate::plain::{Keys, Plain, WORDS};
+use crate::plain::{Keys, Plain, BACK, WORDS};
 
 const PLAIN: Plain = Plain { keys: Keys::Pairs };
 const SIZES: [usize; 6] = [500, 1000, 2000, 4000, 8184, 8192];
@@ -44,19 +44,24 @@ fn edits_are_done_and_taken_back() {
         let mut buffer = mix.document(8184);
         buffer.resize(8192, 0);
         let before = buffer.clone();
+        let mut noted = vec![0; BACK];
         for spot in SPOTS {
             for pair in mix.pairs(&buffer[..8184], spot) {
                 let (edit, back) = (pair.edit, pair.back);
-                let done = PLAIN.edit(&table, &mut buffer, 8184, edit.operation, edit.place, &edit.piece);
+                let done = PLAIN.edit(&table, &mut buffer, 8184, edit.operation, edit.place, &edit.piece, &mut noted);
                 assert_eq!(done.number, 0, "{} {}", mix.name(), pair.name);
-                let undone = PLAIN.edit(&table, &mut buffer, done.used, back.operation, back.place, &back.piece);
+                assert_eq!(
+                    (noted[0], u64::from(noted[1]), &noted[3..][..noted[2] as usize]),
+                    (back.operation, back.place, &back.piece[..])
+                );
+                let undone = PLAIN.edit(&table, &mut buffer, done.used, back.operation, back.place, &back.piece, &mut noted);
                 assert_eq!((undone.number, undone.used), (0, 8184), "{} {}", mix.name(), pair.back_name);
                 assert_eq!(buffer, before);
             }
             for refused in mix.refused_inserts(&buffer[..8184], spot) {
                 let room = if refused.is_full { 8184 } else { 8192 };
                 let edit = refused.edit;
-                let answer = PLAIN.edit(&table, &mut buffer[..room], 8184, edit.operation, edit.place, &edit.piece);
+                let answer = PLAIN.edit(&table, &mut buffer[..room], 8184, edit.operation, edit.place, &edit.piece, &mut noted);
                 assert_eq!(answer.number, refused.number, "{} {}", mix.name(), refused.after);
             }
         }

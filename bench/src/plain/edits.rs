@@ -16,6 +16,7 @@ struct Splice<'a> {
 }
 
 /// The new length, and how many children were looked at.
+#[allow(clippy::too_many_arguments)]
 pub fn edit(
     words: &[u64],
     buffer: &mut [u32],
@@ -23,6 +24,7 @@ pub fn edit(
     operation: u32,
     place: u64,
     piece: &[u32],
+    back: &mut [u32],
     keys: Keys,
 ) -> Result<(usize, usize), Fault> {
     let table = Table::proper(words).ok_or(13u32)?;
@@ -38,6 +40,8 @@ pub fn edit(
     if new > TOKENS.min(buffer.len()) || is_too_deep(tokens, &splice) {
         return Err(5.into());
     }
+    let (by, with) = taken_back(tokens, operation, piece, &splice);
+    let back = back.get_mut(..3 + with.len()).ok_or(5u32)?;
 
     let mut edited = Vec::with_capacity(new);
     edited.extend_from_slice(&tokens[..splice.at]);
@@ -46,6 +50,8 @@ pub fn edit(
     let of_piece = judge::starts(&edited, splice.at, splice.at + splice.put.len());
     let children = judge::judge(table, &edited, splice.touched.into_iter().chain(of_piece), keys)?;
 
+    back[..3].copy_from_slice(&[by, place as u32, with.len() as u32]);
+    back[3..].copy_from_slice(with);
     let old = tokens.len();
     buffer[..new].copy_from_slice(&edited);
     if new < old {
@@ -110,6 +116,18 @@ fn attribute(tokens: &[u32], start: usize, wanted: u32) -> (usize, usize) {
         }
         Some(at) => (at, 0),
         None => (after, 0),
+    }
+}
+
+/// The operation that takes an edit back, and its piece.
+fn taken_back<'a>(tokens: &'a [u32], operation: u32, piece: &'a [u32], splice: &Splice) -> (u32, &'a [u32]) {
+    let went = &tokens[splice.at..splice.at + splice.cut];
+    match operation {
+        INSERT => (REMOVE, &[]),
+        REMOVE => (INSERT, went),
+        REPLACE => (REPLACE, went),
+        SET if went.is_empty() => (DROP, &piece[..1]),
+        _ => (SET, went),
     }
 }
 

@@ -25,6 +25,8 @@ pub use table::WORDS;
 pub const TOKENS: usize = 8192;
 /// Most elements inside one another.
 pub const DEPTH: usize = 64;
+/// Most numbers of an edit that takes one back: three, and its piece.
+pub const BACK: usize = 3 + TOKENS;
 
 pub struct Plain {
     pub keys: Keys,
@@ -80,8 +82,8 @@ impl Calls for Plain {
     }
 
     #[inline(never)]
-    fn edit(&self, table: &[u64], buffer: &mut [u32], used: u64, operation: u32, place: u64, piece: &[u32]) -> Answer {
-        match edits::edit(table, buffer, used, operation, place, piece, self.keys) {
+    fn edit(&self, table: &[u64], buffer: &mut [u32], used: u64, operation: u32, place: u64, piece: &[u32], back: &mut [u32]) -> Answer {
+        match edits::edit(table, buffer, used, operation, place, piece, back, self.keys) {
             Ok((new, children)) => {
                 Answer { number: 0, place: 0, used: new as u64, change: new as i32 - used as i32, children: children as u32 }
             }

@@ -1,6 +1,6 @@
 //! The plain version on the paper's small shade and its four models.
 
-use super::{Keys, Plain, PLACES, WORDS};
+use super::{Keys, Plain, BACK, PLACES, WORDS};
 use crate::calls::{Answer, Calls, Compared, Count, Verdict};
 use crate::documents::{cycle, file, other_small_shade};
 
@@ -17,7 +17,7 @@ fn table(plain: &Plain) -> Vec<u64> {
     table
 }
 
-/// The answer to an edit of the small shade in a buffer of 32 places.
+/// The answer to an edit of the small shade in a buffer of 32 places. If it is done, it is taken back.
 fn answer(operation: u32, place: u64, piece: &[u32]) -> Answer {
     let [plain, field] = both();
     let table = table(&plain);
@@ -25,16 +25,21 @@ fn answer(operation: u32, place: u64, piece: &[u32]) -> Answer {
     buffer[..15].copy_from_slice(&SHADE);
     let before = buffer;
     let mut second = buffer;
-    let answer = plain.edit(&table, &mut buffer, 15, operation, place, piece);
-    assert_eq!(answer, field.edit(&table, &mut second, 15, operation, place, piece));
-    assert_eq!(buffer, second);
+    let (mut back, mut other) = ([7; 32], [7; 32]);
+    let answer = plain.edit(&table, &mut buffer, 15, operation, place, piece, &mut back);
+    assert_eq!(answer, field.edit(&table, &mut second, 15, operation, place, piece, &mut other));
+    assert_eq!((buffer, back), (second, other));
     assert_eq!(answer.change as i64, answer.used as i64 - 15);
     if answer.number == 0 {
         let used = answer.used as usize;
         assert!(buffer[used..].iter().enumerate().all(|(k, &token)| token == if used + k < 15 { 0 } else { 7 }));
         assert_eq!(plain.check(&table, &buffer, answer.used), Verdict { number: 0, place: 0 });
+        let (by, with) = (back[0], &back[3..3 + back[2] as usize]);
+        let undone = plain.edit(&table, &mut buffer, answer.used, by, u64::from(back[1]), with, &mut other[..3 + piece.len()]);
+        assert_eq!((undone.number, undone.used, &buffer[..15]), (0, 15, &SHADE[..]));
+        assert_eq!((other[0], u64::from(other[1]), &other[3..3 + piece.len()]), (operation, place, piece));
     } else {
-        assert_eq!(buffer, before);
+        assert_eq!((buffer, back), (before, [7; 32]));
     }
     answer
 }
@@ -116,7 +121,7 @@ fn a_run_of_edits() {
         (2, 3, &[], (0, 0, 8)),
     ];
     for (operation, place, piece, expected) in steps {
-        let Answer { number, place, used: now, .. } = plain.edit(&table, &mut buffer, used, operation, place, piece);
+        let Answer { number, place, used: now, .. } = plain.edit(&table, &mut buffer, used, operation, place, piece, &mut [0; BACK]);
         assert_eq!((number, place, now), expected);
         used = now;
     }
