@@ -152,7 +152,8 @@ impl Caller {
                         at[2] as *const u32,
                         edit.piece.len(),
                     );
-                    Said::Answer(Answer { number: said.number, place: said.place, used: said.used, change: said.change })
+                    let library::Answer { number, place, used, change, children } = said;
+                    Said::Answer(Answer { number, place, used, change, children })
                 }
                 Case::Compare { old, new, element, buffer } => {
                     let said = library::shrike_compare(
@@ -197,8 +198,8 @@ pub fn in_words(said: &Said) -> String {
         Said::Number(number) => format!("number {number}"),
         Said::Spot(spot) => format!("number {}, offset {}", spot.number, spot.offset),
         Said::Verdict(verdict) => format!("number {}, place {}", verdict.number, verdict.place),
-        Said::Answer(answer) => {
-            format!("number {}, place {}, used {}, change {}", answer.number, answer.place, answer.used, answer.change)
+        Said::Answer(Answer { number, place, used, change, children }) => {
+            format!("number {number}, place {place}, used {used}, change {change}, children {children}")
         }
         Said::Compared { number, takes_all, length } => format!("number {number}, takes all {takes_all}, length {length}"),
         Said::Printed(text) => format!("{:?}", String::from_utf8_lossy(text)),

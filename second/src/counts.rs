@@ -49,6 +49,8 @@ pub struct Counts {
     gain: i32,
     full: u64,
     longest_piece: usize,
+    /// Of edits that were done: the most children looked at.
+    most_children: u32,
     /// Of comparisons that say no.
     longest_lost: u32,
 }
@@ -69,6 +71,7 @@ impl Counts {
                 self.loss = self.loss.min(answer.change);
                 self.gain = self.gain.max(answer.change);
                 self.full += u64::from(*used == 8_192 || answer.used == 8_192);
+                self.most_children = self.most_children.max(answer.children);
             }
         }
     }
@@ -82,8 +85,9 @@ impl Counts {
                 println!("{what:21}{}", row.concat());
             }
         }
-        let Counts { loss, gain, full, longest_piece, longest_lost, .. } = self;
+        let Counts { loss, gain, full, longest_piece, most_children, longest_lost, .. } = self;
         println!("edits done: change from {loss} to {gain}, {full} at 8192 tokens; longest piece {longest_piece}");
+        println!("edits done: at most {most_children} children looked at");
         println!("comparisons: longest sequence lost {longest_lost}");
     }
 

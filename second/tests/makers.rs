@@ -1,19 +1,20 @@
-//! The random cases hold what they must: rows of every number of texts, kept and refused; content that stops at a child, a text and an end.
+//! The random cases hold what they must: rows of every number of texts, kept and refused; content that stops at a child, a text and an end;
+//! done edits of every sort, whose children are counted once more on the tokens.
 
-use second::case::{Case, Said};
+use second::case::{Case, Memory, Outcome, Said};
 use second::make::group::{Group, PROGRAM_SLOTS, SLOTS};
 use second::paper::grammar::{Content, Grammar};
 use second::paper::tree::{self, Element};
 use second::random::Random;
 
-/// Every case of so many groups, but for the runs of the edit program, and what it says.
-fn each_case(groups: u64, visit: &mut dyn FnMut(&Case, &Said)) {
+/// Every case of so many groups, but for the runs of the edit program, and its outcome.
+fn each_case(groups: u64, visit: &mut dyn FnMut(&Case, &Outcome)) {
     for number in 0..groups {
         let mut group = Group::new(3, number);
         for slot in 0..SLOTS - PROGRAM_SLOTS {
             let case = group.case(&mut Random::new(4, number * SLOTS + slot), slot, 0);
             let outcome = case.outcome();
-            visit(&case, &outcome.said);
+            visit(&case, &outcome);
             group.went(&outcome);
         }
     }
@@ -34,7 +35,7 @@ fn rows(root: &Element, grammar: &Grammar) -> [usize; 3] {
 #[test]
 fn rows_of_no_text_one_and_two() {
     let (mut empty_kept, mut one_kept, mut two_refused, mut cleared) = (0, 0, 0, 0);
-    each_case(200, &mut |case, said| match (case, said) {
+    each_case(200, &mut |case, outcome| match (case, &outcome.said) {
         (Case::Check { table, doc, used }, Said::Verdict(verdict)) => {
             if let (Some(grammar), Some(root)) = (&table.grammar, tree::document(doc, *used)) {
                 let rows = rows(&root, grammar);
@@ -58,8 +59,8 @@ fn rows_of_no_text_one_and_two() {
 #[test]
 fn content_stops_everywhere() {
     let mut stops = [[0; 3]; 2];
-    each_case(200, &mut |case, said| {
-        if let (Case::Check { table, doc, .. }, Said::Verdict(verdict)) = (case, said) {
+    each_case(200, &mut |case, outcome| {
+        if let (Case::Check { table, doc, .. }, Said::Verdict(verdict)) = (case, &outcome.said) {
             if verdict.number == 9 {
                 let sort = [1, 3, 2].iter().position(|sort| doc[verdict.place as usize] % 8 == *sort).expect("a start, a text or an end");
                 stops[usize::from(table.schema.is_none())][sort] += 1;
@@ -67,4 +68,70 @@ fn content_stops_everywhere() {
         }
     });
     assert!(stops.iter().flatten().all(|count| *count >= 10), "{stops:?}");
+}
+
+/// The children and texts of the element that starts at a place: starts and texts one level below it.
+fn kids(tokens: &[u32], start: usize) -> usize {
+    let (mut depth, mut kids) = (0, 0);
+    for token in &tokens[start..] {
+        kids += usize::from(depth == 1 && [1, 3].contains(&(token % 8)));
+        match token % 8 {
+            1 => depth += 1,
+            2 => depth -= 1,
+            _ => {}
+        }
+        if depth == 0 {
+            break;
+        }
+    }
+    kids
+}
+
+/// The start of the element that holds what stands at a place; None for the root.
+fn parent(tokens: &[u32], place: usize) -> Option<usize> {
+    let mut open = Vec::new();
+    for (at, token) in tokens[..place].iter().enumerate() {
+        match token % 8 {
+            1 => open.push(at),
+            2 => drop(open.pop()),
+            _ => {}
+        }
+    }
+    open.pop()
+}
+
+/// Edits of every operation that looked at no child, at some, and at some in the piece; replaced roots; texts as pieces.
+#[test]
+fn children_looked_at() {
+    let mut by_operation = [[0; 3]; 5];
+    let (mut roots, mut texts) = (0, 0);
+    each_case(200, &mut |case, outcome| {
+        let (edit, answer, after) = match (case, &outcome.said, &outcome.after) {
+            (Case::Edit { edit, .. }, Said::Answer(answer), Memory::Tokens(after)) => (edit, answer, after),
+            _ => return,
+        };
+        if answer.number != 0 {
+            assert_eq!(answer.children, 0);
+            return;
+        }
+        let place = edit.place as usize;
+        let touched = if edit.operation < 4 { parent(after, place) } else { Some(place) };
+        let above = touched.map_or(0, |start| kids(after, start));
+        let starts = (0..edit.piece.len()).filter(|at| edit.piece[*at] % 8 == 1);
+        let inside: usize = starts.map(|at| kids(&edit.piece, at)).sum();
+        assert_eq!(answer.children as usize, above + inside);
+        assert!(inside <= edit.piece.len());
+        let row = &mut by_operation[edit.operation as usize - 1];
+        row[0] += usize::from(answer.children == 0);
+        row[1] += usize::from(above > 0);
+        row[2] += usize::from(inside > 0);
+        roots += usize::from(touched.is_none());
+        texts += usize::from(edit.piece.len() == 1 && edit.piece[0] % 8 == 3);
+    });
+    // What is put into an element is a child of it, and only pieces of elements have children inside.
+    let can_be = [[false, true, true], [true, true, false], [true, true, true], [true, true, false], [true, true, false]];
+    for (row, can_be) in by_operation.iter().zip(can_be) {
+        assert!(row.iter().zip(can_be).all(|(count, can_be)| if can_be { *count >= 5 } else { *count == 0 }), "{by_operation:?}");
+    }
+    assert!(roots >= 20 && texts >= 20, "{roots} {texts}");
 }

@@ -35,23 +35,28 @@ fn verdict(used: u64) -> Verdict {
     judged
 }
 
-/// Number, place and used length of an edit of the document, in a buffer of 40 places; and the buffer after it. They are this program's
-/// and the archive's.
+/// Number, place and used length of an edit of the document, in a buffer of 40 places; and the buffer after it.
 fn answer(operation: u32, asked: u64, piece: &[u32]) -> ((u32, u32, u64), Vec<u32>) {
+    let (answer, after) = edited(operation, asked, piece);
+    ((answer.number, answer.place, answer.used), after)
+}
+
+/// The answer of an edit of the document, in a buffer of 40 places, and the buffer after it. They are this program's and the archive's.
+fn edited(operation: u32, asked: u64, piece: &[u32]) -> (Answer, Vec<u32>) {
     let mut buffer = DOCUMENT.to_vec();
     buffer.resize(40, 7);
     let (answer, after) = edit(Some(&grammar()), &buffer, 15, &Edit { operation, place: asked, piece: piece.to_vec() });
-    let Answer { number, place, used, change } = answer;
+    let Answer { number, place, used, change, children } = answer;
     assert_eq!(i64::from(change), used as i64 - 15);
     let (_, table) = translated(&schema_file_bytes());
     let mut doc = buffer.clone();
     let (words, room) = (table.len(), doc.len());
     let (table, lent) = (table.as_ptr(), doc.as_mut_ptr());
     let said = unsafe { library::shrike_edit(table, words, lent, room, 15, operation, asked, piece.as_ptr(), piece.len()) };
-    assert_eq!((said.number, said.place, said.used, said.change), (number, place, used, change));
+    assert_eq!((said.number, said.place, said.used, said.change, said.children), (number, place, used, change, children));
     assert_eq!(doc, after);
-    assert!(number == 0 || after == buffer, "a refusal changes nothing");
-    ((number, place, used), after)
+    assert!(number == 0 || after == buffer && children == 0, "a refusal changes nothing and has looked at nothing");
+    (answer, after)
 }
 
 #[test]
@@ -110,6 +115,27 @@ fn stops() {
     assert_eq!(answer(3, 3, &[25, 20, 165, 2]).0, (9, 3, 15));
     assert_eq!(answer(3, 0, &[1, 4, 61, 2]).0, (9, 3, 15));
     assert_eq!(answer(3, 0, &[1, 4, 61, 9, 12, 165, 9, 2, 2, 81, 2, 2]).0, (9, 9, 15));
+}
+
+/// The children looked at: the touched element's in the edited document, and those of every element in the piece.
+#[test]
+fn children() {
+    for (operation, place, piece, children) in [
+        (2, 10, &[][..], 1),
+        (2, 7, &[], 0),
+        (1, 10, &[9, 12, 173, 2], 3),
+        (1, 10, &[25, 20, 165, 2], 3),
+        (1, 9, &[17, 243, 2], 2 + 1),
+        (1, 3, &[9, 12, 173, 17, 243, 2, 17, 2, 2], 3 + 2 + 1),
+        (3, 7, &[251], 1),
+        (3, 3, &[9, 12, 165, 17, 2, 17, 2, 17, 3, 2, 2], 2 + 3 + 1),
+        (3, 0, &[1, 4, 61, 9, 12, 165, 17, 3, 2, 2, 9, 12, 173, 2, 2], 2 + 1 + 1),
+        (4, 0, &[4, 69], 2),
+        (4, 10, &[20, 165], 0),
+    ] {
+        let answer = edited(operation, place, piece).0;
+        assert_eq!((answer.number, answer.children), (0, children), "operation {operation} at {place}");
+    }
 }
 
 #[test]

@@ -182,8 +182,8 @@ answers a n p = eqb (a .0) n && eqb (a .1) p
 abbrev pub tables : ℕ × List ℕ → ℕ → List ℕ → Bool
 tables a n t = eqb (a .0) n && same (a .1) t
 
-abbrev pub results : Outcome → ℕ → ℕ → ℕ → ℤ → List ℕ → Bool
-results o n p u c b = eqb (o .number) n && eqb (o .place) p && eqb (o .used) u && sameChange (o .change) c && same (o .buffer) b
+abbrev pub results : Outcome → ℕ → ℕ → ℕ → ℤ → ℕ → List ℕ → Bool
+results o n p u c k b = eqb (o .number) n && eqb (o .place) p && eqb (o .used) u && sameChange (o .change) c && eqb (o .children) k && same (o .buffer) b
 
 abbrev pub each : List Bool → Bool
 each l = all (λ b. b) l
@@ -852,17 +852,18 @@ def check_case(context, buffer, used):
 
 def edit_case(context, buffer, used, operation, place, piece):
     answer = ref.edit(context.table, buffer, used, operation, place, piece)
-    number, where, length, change, after = answer
+    number, where, length, change, children, after = answer
     own = context.file is None
     name = OPERATIONS.get(operation, 'other')
     terms = []
-    wanted = '%d %d %d %s %s' % (number, where, length, signed(change), term(after))
+    wanted = '%d %d %d %s %d %s' % (number, where, length, signed(change), children, term(after))
 
     def add(name, call):
         probes = [('number', '(%s) .number' % call, 4),
                   ('place', '(%s) .place' % call, 14),
                   ('used', '(%s) .used' % call, 14),
                   ('change as expected', 'sameChange ((%s) .change) %s' % (call, signed(change)), None),
+                  ('children', '(%s) .children' % call, 14),
                   ('buffer as expected', 'same ((%s) .buffer) %s' % (call, term(after)), None)]
         terms.append(Term(name, number, 'results (%s) %s' % (call, wanted), len(buffer) + len(piece), probes))
 
@@ -1165,7 +1166,7 @@ class Cases:
                     break
                 asked = self.make.edit(context, tree, r.choice([1, 1, 2, 3, 4, 4, 5, 0]))
                 edits += [asked[0], asked[1], len(asked[2])] + asked[2]
-                _, _, used, _, buffer = ref.edit(table, buffer, used, *asked)
+                _, _, used, _, _, buffer = ref.edit(table, buffer, used, *asked)
             if any(number > LARGEST for number in edits):
                 continue
             edits = ref.file_of(edits)

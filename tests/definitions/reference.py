@@ -778,8 +778,10 @@ def find(root, place):
     return None
 
 
-def changed(root, operation, place, piece, given):
-    """The tree after an edit and the touched elements; raises Refused."""
+def changed(root, operation, place, given):
+    """The tree after an edit, the touched parent (or the element that is set or
+    dropped; None for a replaced root) and the elements of the piece; raises
+    Refused."""
     spot = find(root, place)
     if spot is None:
         raise Refused(6)
@@ -793,24 +795,24 @@ def changed(root, operation, place, piece, given):
         else:
             parent, index = there.parent, there.parent.children.index(there)
         adopt(parent, index, given)
-        return root, [parent] + new_ones
+        return root, parent, new_ones
     if operation == 2:
         if sort == END or place == 0:
             raise Refused(6)
         there.parent.children.remove(there)
-        return root, [there.parent]
+        return root, there.parent, []
     if operation == 3:
         if sort == END:
             raise Refused(6)
         if place == 0:
             if isinstance(given, Text):
                 raise Refused(6)
-            return given, new_ones
+            return given, None, new_ones
         parent = there.parent
         index = parent.children.index(there)
         parent.children.remove(there)
         adopt(parent, index, given)
-        return root, [parent] + new_ones
+        return root, parent, new_ones
     if sort != START:
         raise Refused(6)
     number, values = given
@@ -820,33 +822,35 @@ def changed(root, operation, place, piece, given):
         if number not in there.attributes:
             raise Refused(6)
         del there.attributes[number]
-    return root, [there]
+    return root, there, []
 
 
 def edit_by_schema(schema, buffer, used, operation, place, piece):
-    """(number, place, used after, change, buffer after)"""
+    """(number, place, used after, change, children looked at, buffer after)"""
     try:
         root = document(buffer, used)
         lay(root)
         if not 1 <= operation <= 5:
             raise Refused(6)
         given = piece_of(operation, piece)
-        root, touched = changed(root, operation, place, piece, given)
+        root, parent, new_ones = changed(root, operation, place, given)
         tokens = lay(root)
         if len(tokens) > TOKENS or len(tokens) > len(buffer) or root.height() > DEPTH:
             raise Refused(5)
-        judge(schema, root, touched)
+        judge(schema, root, new_ones if parent is None else [parent] + new_ones)
     except Refused as refused:
-        return refused.number, refused.place, used, 0, list(buffer)
+        return refused.number, refused.place, used, 0, 0, list(buffer)
     length = len(tokens)
     after = tokens + [0] * (used - length) + list(buffer[max(used, length):])
-    return 0, 0, length, length - used, after
+    # item 10: those of the touched parent, plus those of every element in the piece
+    children = (0 if parent is None else len(parent.children)) + sum(len(one.children) for one in new_ones)
+    return 0, 0, length, length - used, children, after
 
 
 def edit(table, buffer, used, operation, place, piece):
-    """(number, place, used after, change, buffer after)"""
+    """(number, place, used after, change, children looked at, buffer after)"""
     if not proper(table):
-        return 13, 0, used, 0, list(buffer)
+        return 13, 0, used, 0, 0, list(buffer)
     return edit_by_schema(rules_of(table), buffer, used, operation, place, piece)
 
 
@@ -931,7 +935,7 @@ def run(schema_file, doc_file, edits_file, out):
         if count > TOKENS:
             raise Refused(5)
         piece = [source.next() for _ in range(count)]
-        number, place, used, _, buffer = edit(table, buffer, used, operation, place, piece)
+        number, place, used, _, _, buffer = edit(table, buffer, used, operation, place, piece)
         line += 1
         out.append('%d %d %d %d' % (line, number, place, used))
 
@@ -999,18 +1003,19 @@ def self_test():
     same(check(table, SHADE_DOC, 15), (0, 0))
     same(check_by_schema(schema, SHADE_DOC, 15), (0, 0))
 
-    def try_edit(operation, place, piece, wanted):
+    def try_edit(operation, place, piece, wanted, children=None):
         room = SHADE_DOC + [99] * 10
         got = edit(table, room, 15, operation, place, piece)
         same(edit_by_schema(schema, room, 15, operation, place, piece), got)
         if wanted[0]:
-            same(got, (wanted[0], wanted[1], 15, 0, room))
+            same(got, (wanted[0], wanted[1], 15, 0, 0, room))
         else:
             same(got[:4], (0, 0, wanted[1], wanted[1] - 15))
-            same(len(got[4]), 25)
-            same(got[4][max(wanted[1], 15):], room[max(wanted[1], 15):])
-            same(set(got[4][wanted[1]:15]) <= {0}, True)
-            same(check(table, got[4], got[2]), (0, 0))
+            same(children in (None, got[4]), True)
+            same(len(got[5]), 25)
+            same(got[5][max(wanted[1], 15):], room[max(wanted[1], 15):])
+            same(set(got[5][wanted[1]:15]) <= {0}, True)
+            same(check(table, got[5], got[2]), (0, 0))
 
     try_edit(2, 3, [], (9, 3))
     try_edit(2, 10, [], (0, 11))
@@ -1037,6 +1042,19 @@ def self_test():
     try_edit(1, 9, [17, 243, 243, 2], (9, 11))
     try_edit(1, 9, [17, 25, 20, 165, 2, 2], (9, 10))
     try_edit(1, 13, [243], (9, 13))
+
+    # the children looked at (item 10)
+    try_edit(2, 10, [], (0, 11), 1)
+    try_edit(2, 7, [], (0, 14), 0)
+    try_edit(1, 10, [9, 12, 173, 2], (0, 19), 3)
+    try_edit(1, 9, [17, 243, 2], (0, 18), 2 + 1)
+    try_edit(1, 3, [9, 12, 173, 17, 243, 2, 17, 2, 2], (0, 24), 3 + 2 + 1)
+    try_edit(3, 7, [251], (0, 15), 1)
+    try_edit(3, 3, [9, 12, 165, 17, 2, 17, 2, 17, 3, 2, 2], (0, 19), 2 + 3 + 1)
+    try_edit(3, 0, [1, 4, 61, 9, 12, 165, 17, 3, 2, 2, 9, 12, 173, 2, 2], (0, 15), 2 + 1 + 1)
+    try_edit(4, 0, [4, 69], (0, 15), 2)
+    try_edit(4, 3, [12, 165], (0, 15), 1)
+    try_edit(4, 10, [20, 165], (0, 15), 0)
 
     # where content stops (item 3)
     try_edit(1, 10, [243], (9, 10))

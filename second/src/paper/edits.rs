@@ -25,6 +25,8 @@ pub struct Answer {
     pub place: u32,
     pub used: u64,
     pub change: i32,
+    /// Item 10: the children and texts of the touched elements in the edited document; 0 if refused.
+    pub children: u32,
 }
 
 /// A good piece of one of the five operations.
@@ -51,21 +53,33 @@ pub enum Spot {
 pub fn edit(grammar: Option<&Grammar>, buffer: &[u32], used: u64, edit: &Edit) -> (Answer, Vec<u32>) {
     let mut after = buffer.to_vec();
     let answer = match edited(grammar, buffer, used, edit) {
-        Err((number, place)) => Answer { number, place, used, change: 0 },
-        Ok(tokens) => {
+        Err((number, place)) => Answer { number, place, used, change: 0, children: 0 },
+        Ok(root) => {
+            let tokens = root.tokens();
             for token in &mut after[..used as usize] {
                 *token = 0;
             }
             after[..tokens.len()].copy_from_slice(&tokens);
             let change = tokens.len() as i64 - used as i64;
-            Answer { number: DONE, place: 0, used: tokens.len() as u64, change: change as i32 }
+            Answer { number: DONE, place: 0, used: tokens.len() as u64, change: change as i32, children: looked_at(&root) }
         }
     };
     (answer, after)
 }
 
-/// The tokens of the edited document, or number and place of the refusal.
-fn edited(grammar: Option<&Grammar>, buffer: &[u32], used: u64, edit: &Edit) -> Result<Vec<u32>, (u32, u32)> {
+/// The children and texts of all touched elements: of the parent, or of the element that is set or dropped, and of each in the piece.
+fn looked_at(root: &Element) -> u32 {
+    let mut count = 0;
+    root.each(&mut |element| {
+        if element.touched {
+            count += element.content.len() as u32;
+        }
+    });
+    count
+}
+
+/// The edited document, or number and place of the refusal.
+fn edited(grammar: Option<&Grammar>, buffer: &[u32], used: u64, edit: &Edit) -> Result<Element, (u32, u32)> {
     let grammar = grammar.ok_or((TABLE, 0))?;
     let mut root = tree::document(buffer, used).ok_or((SHAPE, 0))?;
     if !(INSERT..=DROP).contains(&edit.operation) {
@@ -80,7 +94,7 @@ fn edited(grammar: Option<&Grammar>, buffer: &[u32], used: u64, edit: &Edit) -> 
     }
     let verdict = judgement::judge(&root, grammar);
     match verdict.number {
-        DONE => Ok(root.tokens()),
+        DONE => Ok(root),
         number => Err((number, verdict.place)),
     }
 }
