@@ -1,7 +1,8 @@
 //! `second SEED COUNT [--program COMMAND] [--every N]` compares COUNT random cases of a seed.
 //! `second save SEED CASE` saves one case, `second replay FOLDER [--program COMMAND]` runs a saved one. The files of a run of the edit
-//! program hang on --every too.
+//! program hang on --every too. `second answers` calls nothing: it answers cases that it is given.
 
+mod answers;
 mod calls;
 mod counts;
 mod memory;
@@ -11,7 +12,7 @@ use std::path::{Path, PathBuf};
 use std::process::ExitCode;
 
 const USE: &str =
-    "second SEED COUNT [--program COMMAND] [--every N]\nsecond replay FOLDER [--program COMMAND]\nsecond save SEED CASE [--every N]";
+    "second SEED COUNT [--program COMMAND] [--every N]\nsecond replay FOLDER [--program COMMAND]\nsecond save SEED CASE [--every N]\nsecond answers";
 
 /// How often the edit program is run if nothing is said: for one schema in so many. It takes a minor part of a long run.
 fn usual_every(count: u64) -> u64 {
@@ -24,6 +25,7 @@ fn main() -> ExitCode {
         Some(Order::Run(order)) => run::run(order),
         Some(Order::Save(seed, number, every)) => run::save(seed, number, every).map(|()| true),
         Some(Order::Replay(folder, program)) => run::replay(Path::new(&folder), program),
+        Some(Order::Answers) => answers::answers().map(|()| true),
         None => {
             eprintln!("{USE}");
             return ExitCode::from(2);
@@ -43,6 +45,7 @@ enum Order {
     Run(run::Order),
     Save(u64, u64, u64),
     Replay(String, Option<PathBuf>),
+    Answers,
 }
 
 fn order(words: &[String]) -> Option<Order> {
@@ -58,6 +61,7 @@ fn order(words: &[String]) -> Option<Order> {
         }
     }
     match plain[..] {
+        ["answers"] => Some(Order::Answers),
         ["replay", folder] => Some(Order::Replay(folder.to_string(), program)),
         ["save", seed, number] => Some(Order::Save(seed.parse().ok()?, number.parse().ok()?, every.unwrap_or(usual_every(0)))),
         [seed, count] => {

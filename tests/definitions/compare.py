@@ -6,6 +6,9 @@ give the answers, writes them as equations over the definitions, and has
 `rt check` compute these. With --share N one in N of the fixed cases is taken,
 others with each seed: N seeds in a row take them all.
 
+With --second PROGRAM its checks and edits are compared with the answers of the
+program in second/ instead, and no equations are written.
+
 Exit status: 0 all equal; 1 some differ, or an answer that can occur did not;
 2 the equations could not be checked.
 """
@@ -231,12 +234,14 @@ class Term:
 
 
 class Case:
-    """One input, its terms, what to tell of it, and further rows of the
-    printed table in which it counts."""
+    """One input, its terms, what to tell of it, further rows of the printed
+    table in which it counts, and the case and its answer as lines of the
+    program in second/, if it answers such cases."""
 
-    def __init__(self, terms, told, rows=()):
+    def __init__(self, terms, told, rows=(), lines=None):
         self.terms = terms
         self.told = told
+        self.lines = lines
         self.rows = [(part.call, part.number) for part in terms] + list(rows)
 
 
@@ -847,7 +852,8 @@ def check_case(context, buffer, used):
     if not own:
         agree('check', (number, place), ref.check_by_schema(context.schema, buffer, used))
         add('checking', 'checking (ofSchema s) %s %d' % (term(buffer), used))
-    return Case(terms, told(call='check', buffer=buffer, used=used, expected=(number, place)))
+    lines = 'check %d | %s' % (used, plain(buffer)), '%d %d' % (number, place)
+    return Case(terms, told(call='check', buffer=buffer, used=used, expected=(number, place)), lines=lines)
 
 
 def edit_case(context, buffer, used, operation, place, piece):
@@ -877,8 +883,14 @@ def edit_case(context, buffer, used, operation, place, piece):
         before = ref.check_by_schema(context.rules, buffer, used)[0]
         if before != 4:
             rows.append(('(invalid before)' if before else '(valid before)', number))
+    lines = ('edit %d %d %d | %s | %s' % (used, operation, place, plain(buffer), plain(piece)),
+             '%s | %s' % (plain(answer[:5]), plain(after)))
     return Case(terms, told(call='edit', buffer=buffer, used=used, operation=operation, place=place, piece=piece,
-                            expected=answer), rows)
+                            expected=answer), rows, lines)
+
+
+def plain(numbers):
+    return ' '.join(map(str, numbers))
 
 
 def agree(call, by_table, by_schema):
@@ -1406,6 +1418,9 @@ class Cases:
         self.add(edit_case(shade, ref.SHADE_DOC, 15, 1, 0, panel), shade)       # not a place, and no room
         self.add(edit_case(shade, ref.SHADE_DOC + [7] * 6, 15, 2, 10, []), shade)
         self.add(edit_case(shade, faulty + [7] * 6, 10, 1, 7, panel), shade)
+        rows = [17, 243, 2, 17, 2]                          # of the piece's elements, one has children and one has a text
+        self.add(edit_case(shade, ref.SHADE_DOC + [7] * 9, 15, 1, 3, [9, 12, 173] + rows + [2]), shade)
+        self.add(edit_case(shade, ref.SHADE_DOC + [7] * 9, 15, 3, 0, [1, 4, 61, 9, 12, 173] + rows + [2, 2]), shade)
         self.add(translate_case([1, 0, 0, 2, 1, 1, 0, 2, 1], [3] * TABLE))      # a second ID, and then no status
 
     # -- all
@@ -1616,11 +1631,34 @@ def locate(scratch, failed):
     return bad, '\n'.join(lines)
 
 
+def compared_with(program, cases):
+    """Compares checks and edits with the answers of the program in second/,
+    whose tokens have 32 bits; gives the exit status."""
+    asked, wanted = [], []
+    for context in cases.contexts:
+        asked.append('schema ' + plain(context.file) if context.file is not None else 'table ' + plain(context.table))
+        for case in context.cases:
+            if case.lines and all(int(number) < 2 ** 32 for number in re.findall(r'\d+', case.lines[0])):
+                asked.append(case.lines[0])
+                wanted.append((case, context))
+    done = subprocess.run([program, 'answers'], input='\n'.join(asked).encode(), stdout=subprocess.PIPE)
+    answers = done.stdout.decode().splitlines()
+    if done.returncode or len(answers) != len(wanted):
+        print('%s ends with %d after %d of %d answers' % (program, done.returncode, len(answers), len(wanted)))
+        return 2
+    bad = [pair for pair in zip(wanted, answers) if pair[0][0].lines[1] != pair[1].strip()]
+    for (case, context), answer in bad[:5]:
+        print('schema file: %s\n%s\n    second: %s\n' % (context.file, case.told, answer))
+    print('%d checks and edits of both programs, %d differ' % (len(wanted), len(bad)))
+    return 1 if bad else 0
+
+
 def main():
     words = argparse.ArgumentParser(description=__doc__, formatter_class=argparse.RawDescriptionHelpFormatter)
     words.add_argument('seed', metavar='SEED', type=int, nargs='?', default=1, help='default: 1')
     words.add_argument('count', metavar='COUNT', type=int, nargs='?', default=600, help='random cases; default: 600')
     words.add_argument('--share', metavar='N', type=int, default=1, help='one in N of the fixed cases; default: all')
+    words.add_argument('--second', metavar='PROGRAM', help='compare with this program in place of the definitions')
     words.add_argument('--keep', action='store_true', help='keep the scratch repository')
     words.add_argument('--paper', metavar='FOLDER', default=PAPER, help='definitions of another folder than crates/paper')
     words = words.parse_args()
@@ -1629,6 +1667,8 @@ def main():
     cases = Cases(seed, words.share)
     cases.build(words.count)
     made = time.time()
+    if words.second:
+        sys.exit(compared_with(words.second, cases))
     all_equations = equations(cases)
     print('seed %d: %d random cases and %d fixed ones, %d comparisons, made in %.0f s' %
           (seed, cases.total - cases.fixed, cases.fixed, sum(len(equation.parts) for equation in all_equations),

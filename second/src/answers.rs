@@ -1,0 +1,71 @@
+//! Answers from lines of numbers, by this program alone: for another program that makes cases of its own.
+//!
+//! `schema BYTES` and `table WORDS` choose the table and are answered by nothing. `check USED | DOCUMENT` is answered by number and place,
+//! `edit USED OPERATION PLACE | DOCUMENT | PIECE` by the numbers of the answer, `|` and the document's buffer after it.
+
+use second::case::{Case, Memory, Outcome, Said, Table};
+use second::paper::edits::Edit;
+use second::paper::schema_file;
+use std::io::{stdin, stdout, BufRead, BufWriter, Error, ErrorKind, Result, Write};
+use std::rc::Rc;
+use std::str::FromStr;
+
+/// Answers each line of the standard input.
+pub fn answers() -> Result<()> {
+    let mut table = Rc::new(Table::of_words(Vec::new()));
+    let mut out = BufWriter::new(stdout().lock());
+    for line in stdin().lock().lines() {
+        let line = line?;
+        let (what, numbers) = line.split_once(' ').unwrap_or((&line, ""));
+        let parts: Vec<&str> = numbers.split('|').collect();
+        match (what, &parts[..]) {
+            ("schema", [bytes]) => table = Rc::new(of_schema(&list::<u8>(bytes)?)?),
+            ("table", [words]) => table = Rc::new(Table::of_words(list(words)?)),
+            ("check", [used, doc]) => {
+                let case = Case::Check { table: Rc::clone(&table), doc: list(doc)?, used: one(list(used)?)? };
+                writeln!(out, "{}", in_numbers(&case.outcome()))?;
+            }
+            ("edit", [head, doc, piece]) => {
+                let (used, operation, place) = match list::<u64>(head)?[..] {
+                    [used, operation, place] => (used, operation as u32, place),
+                    _ => return Err(bad()),
+                };
+                let edit = Edit { operation, place, piece: list(piece)? };
+                let case = Case::Edit { table: Rc::clone(&table), doc: list(doc)?, used, edit };
+                writeln!(out, "{}", in_numbers(&case.outcome()))?;
+            }
+            _ => return Err(bad()),
+        }
+    }
+    out.flush()
+}
+
+fn of_schema(file: &[u8]) -> Result<Table> {
+    schema_file::read(file).map(Table::of_schema).map_err(|_| bad())
+}
+
+fn in_numbers(outcome: &Outcome) -> String {
+    match (&outcome.said, &outcome.after) {
+        (Said::Verdict(said), _) => format!("{} {}", said.number, said.place),
+        (Said::Answer(said), Memory::Tokens(after)) => {
+            let after: Vec<String> = after.iter().map(u32::to_string).collect();
+            format!("{} {} {} {} {} | {}", said.number, said.place, said.used, said.change, said.children, after.join(" "))
+        }
+        _ => unreachable!("checks and edits alone are asked"),
+    }
+}
+
+fn list<T: FromStr>(text: &str) -> Result<Vec<T>> {
+    text.split_whitespace().map(|number| number.parse().map_err(|_| bad())).collect()
+}
+
+fn one(numbers: Vec<u64>) -> Result<u64> {
+    match numbers[..] {
+        [number] => Ok(number),
+        _ => Err(bad()),
+    }
+}
+
+fn bad() -> Error {
+    Error::new(ErrorKind::InvalidData, "a line that is no case")
+}
