@@ -1,7 +1,7 @@
 //! Answers from lines of numbers, by this program alone: for another program that makes cases of its own.
 //!
 //! `schema BYTES` and `table WORDS` choose the table and are answered by nothing. `check USED | DOCUMENT` is answered by number and place,
-//! `edit USED OPERATION PLACE | DOCUMENT | PIECE` by the numbers of the answer, `|` and the document's buffer after it.
+//! `edit USED OPERATION PLACE | DOCUMENT | PIECE | BACK` by the numbers of the answer and both buffers after it, `|` before each.
 
 use second::case::{Case, Memory, Outcome, Said, Table};
 use second::paper::edits::Edit;
@@ -25,13 +25,14 @@ pub fn answers() -> Result<()> {
                 let case = Case::Check { table: Rc::clone(&table), doc: list(doc)?, used: one(list(used)?)? };
                 writeln!(out, "{}", in_numbers(&case.outcome()))?;
             }
-            ("edit", [head, doc, piece]) => {
+            ("edit", [head, doc, piece, back]) => {
                 let (used, operation, place) = match list::<u64>(head)?[..] {
                     [used, operation, place] => (used, operation as u32, place),
                     _ => return Err(bad()),
                 };
                 let edit = Edit { operation, place, piece: list(piece)? };
-                let case = Case::Edit { table: Rc::clone(&table), doc: list(doc)?, used, edit };
+                let (doc, back) = (list(doc)?, list(back)?);
+                let case = Case::Edit { table: Rc::clone(&table), doc, used, edit, back, give: None };
                 writeln!(out, "{}", in_numbers(&case.outcome()))?;
             }
             _ => return Err(bad()),
@@ -45,14 +46,19 @@ fn of_schema(file: &[u8]) -> Result<Table> {
 }
 
 fn in_numbers(outcome: &Outcome) -> String {
-    match (&outcome.said, &outcome.after) {
+    match (&outcome.said, &outcome.after[..]) {
         (Said::Verdict(said), _) => format!("{} {}", said.number, said.place),
-        (Said::Answer(said), Memory::Tokens(after)) => {
-            let after: Vec<String> = after.iter().map(u32::to_string).collect();
-            format!("{} {} {} {} {} | {}", said.number, said.place, said.used, said.change, said.children, after.join(" "))
+        (Said::Answer(said), [Memory::Tokens(doc), Memory::Tokens(back)]) => {
+            let head = format!("{} {} {} {} {}", said.number, said.place, said.used, said.change, said.children);
+            format!("{head} | {} | {}", spaced(doc), spaced(back))
         }
         _ => unreachable!("checks and edits alone are asked"),
     }
+}
+
+fn spaced(numbers: &[u32]) -> String {
+    let numbers: Vec<String> = numbers.iter().map(u32::to_string).collect();
+    numbers.join(" ")
 }
 
 fn list<T: FromStr>(text: &str) -> Result<Vec<T>> {

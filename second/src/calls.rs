@@ -26,7 +26,7 @@ fn lent<'a, T: Copy>(name: &'static str, numbers: &'a [T]) -> Lent<'a> {
     Lent { name, width: std::mem::size_of::<T>(), bytes: bytes_of(numbers) }
 }
 
-/// The memory of a case, what is lent for writing being the second; else in the order of the call.
+/// The memory of a case, what is lent for writing being the second and the fourth; else in the order of the call.
 fn memory_of(case: &Case) -> Vec<Lent<'_>> {
     match case {
         Case::Read { file, buffer } => vec![lent("file", file), lent("buffer", buffer)],
@@ -37,8 +37,8 @@ fn memory_of(case: &Case) -> Vec<Lent<'_>> {
         Case::Spot { text } => vec![lent("text", text)],
         Case::Imported { text, buffer } => vec![lent("text", text), lent("table", buffer)],
         Case::Check { table, doc, .. } => vec![lent("table", &table.words), lent("document", doc)],
-        Case::Edit { table, doc, edit, .. } => {
-            vec![lent("table", &table.words), lent("document", doc), lent("piece", &edit.piece)]
+        Case::Edit { table, doc, edit, back, .. } => {
+            vec![lent("table", &table.words), lent("document", doc), lent("piece", &edit.piece), lent("second buffer", back)]
         }
         Case::Compare { old, new, buffer, .. } => {
             vec![lent("old table", &old.words), lent("sequence", buffer), lent("new table", &new.words)]
@@ -47,14 +47,16 @@ fn memory_of(case: &Case) -> Vec<Lent<'_>> {
     }
 }
 
-fn after_bytes(memory: &Memory) -> Option<&[u8]> {
+fn after_bytes(memory: &Memory) -> &[u8] {
     match memory {
-        Memory::None => None,
-        Memory::Bytes(bytes) => Some(bytes),
-        Memory::Tokens(tokens) => Some(bytes_of(tokens)),
-        Memory::Words(words) => Some(bytes_of(words)),
+        Memory::Bytes(bytes) => bytes,
+        Memory::Tokens(tokens) => bytes_of(tokens),
+        Memory::Words(words) => bytes_of(words),
     }
 }
+
+/// Most pieces of memory that a call is lent.
+const MOST_LENT: usize = 4;
 
 /// What is called: the library, and the edit program if there is one.
 pub struct Caller {
@@ -66,26 +68,27 @@ pub struct Caller {
 impl Caller {
     pub fn new(program: Option<PathBuf>) -> Caller {
         let folder = std::env::temp_dir().join(format!("second-{}", std::process::id()));
-        Caller { lenders: (0..3).map(|_| Lender::new()).collect(), program, folder }
+        Caller { lenders: (0..MOST_LENT).map(|_| Lender::new()).collect(), program, folder }
     }
 
     /// Runs a case; in words, all that differs from the outcome.
     pub fn compare(&mut self, case: &Case, sides: u8, expected: &Outcome) -> Vec<String> {
         let memory = memory_of(case);
-        let mut at = [std::ptr::null_mut(); 3];
+        let mut at = [std::ptr::null_mut(); MOST_LENT];
         for (k, lent) in memory.iter().enumerate() {
             let side = if sides >> k & 1 == 1 { Side::Front } else { Side::End };
             at[k] = self.lenders[k].lend(lent.bytes, side);
         }
         let mut differences = Vec::new();
-        match self.call(case, at) {
-            Ok(said) if said == expected.said => {}
-            Ok(said) => differences.push(format!("got {}", in_words(&said))),
-            Err(trouble) => differences.push(trouble),
+        let said = self.call(case, at);
+        match &said {
+            Ok(said) if *said == expected.said => {}
+            Ok(said) => differences.push(format!("got {}", in_words(said))),
+            Err(trouble) => differences.push(trouble.clone()),
         }
         for (k, lent) in memory.iter().enumerate() {
-            let after = match after_bytes(&expected.after) {
-                Some(after) if k == 1 => after,
+            let after = match expected.after.get(k / 2) {
+                Some(after) if k % 2 == 1 => after_bytes(after),
                 _ => lent.bytes,
             };
             if let Some((byte, got)) = self.lenders[k].difference(after) {
@@ -97,10 +100,16 @@ impl Caller {
                 differences.push(format!("written outside {}: byte {byte} from its begin", lent.name));
             }
         }
+        if let Case::Edit { give: Some(tokens), .. } = case {
+            let is_done = matches!(said, Ok(Said::Answer(answer)) if answer.number == 0 && answer.used == tokens.len() as u64);
+            if !is_done || !self.lenders[1].begins_with(bytes_of(tokens)) {
+                differences.push("the document before is not given back".to_string());
+            }
+        }
         differences
     }
 
-    fn call(&self, case: &Case, at: [*mut u8; 3]) -> Result<Said, String> {
+    fn call(&self, case: &Case, at: [*mut u8; MOST_LENT]) -> Result<Said, String> {
         // Each pointer is that of a buffer just lent, of the length given.
         Ok(unsafe {
             match case {
@@ -140,7 +149,7 @@ impl Caller {
                     let said = library::shrike_check(at[0] as *const u64, words, at[1] as *const u32, room, *used);
                     Said::Verdict(Verdict { number: said.number, place: said.place })
                 }
-                Case::Edit { table, doc, used, edit } => {
+                Case::Edit { table, doc, used, edit, back, .. } => {
                     let said = library::shrike_edit(
                         at[0] as *const u64,
                         table.words.len(),
@@ -151,6 +160,8 @@ impl Caller {
                         edit.place,
                         at[2] as *const u32,
                         edit.piece.len(),
+                        at[3] as *mut u32,
+                        back.len(),
                     );
                     let library::Answer { number, place, used, change, children } = said;
                     Said::Answer(Answer { number, place, used, change, children })

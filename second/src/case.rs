@@ -1,5 +1,6 @@
 //! A case: one call with all that is lent to it, and what the paper says of it.
 
+use crate::edges;
 use crate::paper::dtd::{self, Spot};
 use crate::paper::edits::{self, Answer, Edit};
 use crate::paper::grammar::Grammar;
@@ -30,8 +31,8 @@ impl Table {
     }
 }
 
-/// A call and its inputs; `Imported` is two: what is imported, if it is, is translated. A `buffer` and the document of an edit are lent for
-/// writing; all else only for reading.
+/// A call and its inputs; `Imported` is two: what is imported, if it is, is translated. A `buffer`, and of an edit the document and the
+/// buffer for what takes it `back`, are lent for writing; all else only for reading. An edit that steps back must `give` these tokens.
 #[derive(Clone, Debug)]
 pub enum Case {
     Read { file: Vec<u8>, buffer: Vec<u32> },
@@ -42,7 +43,7 @@ pub enum Case {
     Spot { text: Vec<u8> },
     Imported { text: Vec<u8>, buffer: Vec<u64> },
     Check { table: Rc<Table>, doc: Vec<u32>, used: u64 },
-    Edit { table: Rc<Table>, doc: Vec<u32>, used: u64, edit: Edit },
+    Edit { table: Rc<Table>, doc: Vec<u32>, used: u64, edit: Edit, back: Vec<u32>, give: Option<Vec<u32>> },
     Compare { old: Rc<Table>, new: Rc<Table>, element: u32, buffer: Vec<u32> },
     Program(Files),
 }
@@ -62,17 +63,16 @@ pub enum Said {
 /// The contents of lent memory.
 #[derive(Clone, Debug, PartialEq)]
 pub enum Memory {
-    None,
     Bytes(Vec<u8>),
     Tokens(Vec<u32>),
     Words(Vec<u64>),
 }
 
-/// What holds after a call: what it says, and the memory lent for writing. All other memory is as it was.
+/// What holds after a call: what it says, and the memory lent for writing, in the order of the case. All other memory is as it was.
 #[derive(Clone, Debug)]
 pub struct Outcome {
     pub said: Said,
-    pub after: Memory,
+    pub after: Vec<Memory>,
     /// What is counted: the kinds of answer and their numbers.
     pub counted: Vec<(&'static str, u32)>,
 }
@@ -83,41 +83,48 @@ impl Case {
         match self {
             Case::Read { file, buffer } => {
                 let (number, tokens) = split(numbers::read(file, buffer.len()));
-                let after = Memory::Tokens(over(buffer, &tokens));
+                let after = vec![Memory::Tokens(over(buffer, &tokens))];
                 outcome(Said::Count { number, count: tokens.len() as u32 }, after, "read", number)
             }
             Case::Write { tokens, buffer } => {
                 let (number, bytes) = split(numbers::write(tokens, buffer.len()));
-                let after = Memory::Bytes(over(buffer, &bytes));
+                let after = vec![Memory::Bytes(over(buffer, &bytes))];
                 outcome(Said::Count { number, count: bytes.len() as u32 }, after, "write", number)
             }
             Case::Translate { file, buffer } => {
                 let (number, words) = split(translate(file, buffer.len()));
-                outcome(Said::Number(number), Memory::Words(over(buffer, &words)), "translate", number)
+                outcome(Said::Number(number), vec![Memory::Words(over(buffer, &words))], "translate", number)
             }
             Case::Import { text, buffer } => {
                 let (number, bytes) = split(dtd::import(text, buffer.len()));
-                outcome(Said::Count { number, count: bytes.len() as u32 }, Memory::Bytes(over(buffer, &bytes)), "import", number)
+                let after = vec![Memory::Bytes(over(buffer, &bytes))];
+                outcome(Said::Count { number, count: bytes.len() as u32 }, after, "import", number)
             }
             Case::Names { text, buffer } => {
                 let (number, bytes) = split(dtd::names(text, buffer.len()));
-                outcome(Said::Count { number, count: bytes.len() as u32 }, Memory::Bytes(over(buffer, &bytes)), "names", number)
+                let after = vec![Memory::Bytes(over(buffer, &bytes))];
+                outcome(Said::Count { number, count: bytes.len() as u32 }, after, "names", number)
             }
             Case::Spot { text } => {
                 let spot = dtd::spot(text);
-                outcome(Said::Spot(spot), Memory::None, "import spot", spot.number)
+                outcome(Said::Spot(spot), vec![], "import spot", spot.number)
             }
             Case::Imported { text, buffer } => {
                 let (number, words) = split(dtd::grammar(text).map(|grammar| table::of(&grammar)));
-                outcome(Said::Number(number), Memory::Words(over(buffer, &words)), "import, translate", number)
+                outcome(Said::Number(number), vec![Memory::Words(over(buffer, &words))], "import, translate", number)
             }
             Case::Check { table, doc, used } => {
                 let verdict = judgement::check(table.grammar.as_ref(), doc, *used);
-                outcome(Said::Verdict(verdict), Memory::None, "check", verdict.number)
+                outcome(Said::Verdict(verdict), vec![], "check", verdict.number)
             }
-            Case::Edit { table, doc, used, edit } => {
-                let (answer, after) = edits::edit(table.grammar.as_ref(), doc, *used, edit);
-                outcome(Said::Answer(answer), Memory::Tokens(after), operation_name(edit.operation), answer.number)
+            Case::Edit { table, doc, used, edit, back, give } => {
+                let after = edits::edit(table.grammar.as_ref(), doc, *used, edit, back);
+                let number = after.answer.number;
+                let mut counted = vec![(operation_name(edit.operation), number)];
+                counted.extend(edges::of(table, doc, *used, edit, back, number));
+                counted.extend(give.as_ref().map(|_| ("steps back", number)));
+                let memory = vec![Memory::Tokens(after.doc), Memory::Tokens(after.back)];
+                Outcome { said: Said::Answer(after.answer), after: memory, counted }
             }
             Case::Compare { old, new, element, buffer } => {
                 match compare::compare(old.grammar.as_ref(), new.grammar.as_ref(), *element, buffer.len()) {
@@ -128,7 +135,7 @@ impl Case {
             }
             Case::Program(files) => {
                 let printed = program::printed(files);
-                Outcome { said: Said::Printed(printed.text.into_bytes()), after: Memory::None, counted: printed.lines }
+                Outcome { said: Said::Printed(printed.text.into_bytes()), after: vec![], counted: printed.lines }
             }
         }
     }
@@ -162,13 +169,15 @@ impl Case {
             Case::Check { table, doc, used } => {
                 format!("check: {}, buffer of {}, used {used}\n  document {}", table_in_words(table), doc.len(), short(doc))
             }
-            Case::Edit { table, doc, used, edit } => format!(
-                "{} (operation {}) at {}: {}, buffer of {}, used {used}\n  document {}\n  piece of {}: {}",
+            Case::Edit { table, doc, used, edit, back, give } => format!(
+                "{} (operation {}) at {}{}: {}, buffers of {} and {}, used {used}\n  document {}\n  piece of {}: {}",
                 operation_name(edit.operation),
                 edit.operation,
                 edit.place,
+                if give.is_some() { ", to step back" } else { "" },
                 table_in_words(table),
                 doc.len(),
+                back.len(),
                 short(doc),
                 edit.piece.len(),
                 short(&edit.piece)
@@ -186,14 +195,14 @@ impl Case {
     }
 }
 
-fn outcome(said: Said, after: Memory, what: &'static str, number: u32) -> Outcome {
+fn outcome(said: Said, after: Vec<Memory>, what: &'static str, number: u32) -> Outcome {
     Outcome { said, after, counted: vec![(what, number)] }
 }
 
 /// Number and yes or no, and the sequence over the front of the buffer.
 fn compared((number, takes_all): (u32, u32), buffer: &[u32], sequence: &[u32], what: &'static str) -> Outcome {
     let said = Said::Compared { number, takes_all, length: sequence.len() as u32 };
-    outcome(said, Memory::Tokens(over(buffer, sequence)), what, number)
+    outcome(said, vec![Memory::Tokens(over(buffer, sequence))], what, number)
 }
 
 fn translate(file: &[u8], room: usize) -> Result<Vec<u64>, u32> {

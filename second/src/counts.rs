@@ -7,8 +7,9 @@ use std::collections::BTreeMap;
 /// The answers are the numbers below this.
 const ANSWERS: usize = 17;
 
-/// The answers that each kind of call can give. Those of an edit are asked for by operation.
-const CALLS: [(&str, &[usize]); 17] = [
+/// The answers that each kind of call can give. Those of an edit are asked for by operation, and more often than rarely by how its second
+/// buffer (`back`) fits and by what a set finds.
+const CALLS: [(&str, &[usize]); 29] = [
     ("read", &[0, 1, 5]),
     ("write", &[0, 4, 5]),
     ("translate", &[0, 1, 2, 3, 13]),
@@ -18,11 +19,23 @@ const CALLS: [(&str, &[usize]); 17] = [
     ("import, translate", &[0, 3]),
     ("check", &[0, 4, 8, 9, 10, 11, 12, 13]),
     ("insert", &[0, 4, 5, 6, 7, 8, 9, 10, 11, 12, 13]),
-    ("remove", &[0, 4, 6, 7, 8, 9, 10, 11, 12, 13]),
+    ("remove", &[0, 4, 5, 6, 7, 8, 9, 10, 11, 12, 13]),
     ("replace", &[0, 4, 5, 6, 7, 8, 9, 10, 11, 12, 13]),
     ("set", &[0, 4, 5, 6, 7, 8, 9, 10, 11, 12, 13]),
-    ("drop", &[0, 4, 6, 7, 8, 9, 10, 11, 12, 13]),
+    ("drop", &[0, 4, 5, 6, 7, 8, 9, 10, 11, 12, 13]),
     ("no operation", &[4, 6, 13]),
+    ("back just enough", &[0, 7, 8, 9, 10, 11, 12]),
+    ("back one short", &[5]),
+    ("back short, else", &[0, 7, 8, 9, 10, 11, 12]),
+    ("back of 0", &[5]),
+    ("back of 1", &[5]),
+    ("back of 2", &[5]),
+    ("back of 3", &[0, 5, 8, 9, 12]),
+    ("back over 8,000", &[0, 5]),
+    ("set adds", &[0, 5, 8, 12]),
+    ("set replaces", &[0, 5, 8, 12]),
+    ("set as it was", &[0, 5, 12]),
+    ("steps back", &[0]),
     ("compare yes", &[0]),
     ("compare no", &[0]),
     ("compare refused", &[5, 6, 13, 16]),
@@ -51,6 +64,9 @@ pub struct Counts {
     longest_piece: usize,
     /// Of edits that were done: the most children looked at.
     most_children: u32,
+    /// Runs of edits that were stepped back whole, and the most edits of one.
+    runs_back: usize,
+    longest_run_back: usize,
     /// Of comparisons that say no.
     longest_lost: u32,
 }
@@ -76,6 +92,12 @@ impl Counts {
         }
     }
 
+    /// The runs of a group that were stepped back: the edits of each.
+    pub fn stepped_back(&mut self, runs: &[usize]) {
+        self.runs_back += runs.len();
+        self.longest_run_back = runs.iter().copied().fold(self.longest_run_back, usize::max);
+    }
+
     pub fn print(&self) {
         let head: Vec<String> = (0..ANSWERS).map(|number| format!("{number:>7}")).collect();
         println!("{:21}{}", "answers", head.concat());
@@ -88,6 +110,7 @@ impl Counts {
         let Counts { loss, gain, full, longest_piece, most_children, longest_lost, .. } = self;
         println!("edits done: change from {loss} to {gain}, {full} at 8192 tokens; longest piece {longest_piece}");
         println!("edits done: at most {most_children} children looked at");
+        println!("runs stepped back: {}, the longest of {} edits", self.runs_back, self.longest_run_back);
         println!("comparisons: longest sequence lost {longest_lost}");
     }
 
@@ -96,6 +119,9 @@ impl Counts {
         let mut missing = Vec::new();
         if self.cases >= 20_000 {
             missing.extend(self.lacking(&CALLS));
+            if self.longest_run_back < 3 {
+                missing.push("a run of three edits stepped back".to_string());
+            }
         }
         if self.programs >= 2 * WAYS as u64 {
             missing.extend(self.lacking(&LINES));

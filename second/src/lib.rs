@@ -1,6 +1,7 @@
 //! The second program of Shrikemuff: the paper written once more, as trees, and makers of random cases.
 
 pub mod case;
+pub mod edges;
 pub mod make;
 pub mod paper;
 pub mod random;

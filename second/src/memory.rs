@@ -113,6 +113,13 @@ impl Lender {
         Some((at, buffer[at]))
     }
 
+    /// Whether the buffer begins with these bytes.
+    pub fn begins_with(&mut self, bytes: &[u8]) -> bool {
+        let field = &mut self.fields[self.at];
+        let (from, to) = (field.from, field.to);
+        field.bytes()[from..to].starts_with(bytes)
+    }
+
     /// The first byte outside the buffer that was written, counted from the buffer's begin.
     pub fn outside(&mut self) -> Option<i64> {
         let field = &mut self.fields[self.at];

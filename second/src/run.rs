@@ -24,7 +24,7 @@ pub struct Order {
 
 /// On which side of their fields the buffers of a case stand, one bit each.
 fn sides(number: u64) -> u8 {
-    ((number + number / SLOTS) % 8) as u8
+    ((number + number / SLOTS) % 16) as u8
 }
 
 /// The case of a number. The slots before it are made too, as a run of edits hangs on them.
@@ -32,7 +32,7 @@ fn case_of(seed: u64, number: u64, every: u64) -> Case {
     let mut group = Group::new(seed, number / SLOTS);
     for slot in 0..number % SLOTS {
         let case = made(&mut group, seed, number / SLOTS * SLOTS + slot, every);
-        group.went(&case.outcome());
+        group.went(&case, &case.outcome());
     }
     made(&mut group, seed, number, every)
 }
@@ -69,9 +69,10 @@ pub fn run(order: Order) -> Result<bool> {
                 report(order.seed, number, &case, &outcome, &differences)?;
                 return Ok(false);
             }
-            group.went(&outcome);
+            group.went(&case, &outcome);
             counts.add(&case, &outcome);
         }
+        counts.stepped_back(&group.stepped_back);
         group_number += 1;
     }
     counts.print();

@@ -43,10 +43,14 @@ pub fn save(folder: &Path, case: &Case, sides: u8) -> Result<()> {
             write_numbers(folder, "doc.txt", doc)?;
             small += &format!("used {used}\n");
         }
-        Case::Edit { table, doc, used, edit } => {
+        Case::Edit { table, doc, used, edit, back, give } => {
             save_table(folder, table)?;
             write_numbers(folder, "doc.txt", doc)?;
             write_numbers(folder, "piece.txt", &edit.piece)?;
+            write_numbers(folder, "back.txt", back)?;
+            if let Some(tokens) = give {
+                write_numbers(folder, "give.txt", tokens)?;
+            }
             small += &format!("used {used}\noperation {}\nplace {}\n", edit.operation, edit.place);
         }
         Case::Compare { old, new, element, buffer } => {
@@ -103,6 +107,8 @@ pub fn load(folder: &Path) -> Result<(Case, u8)> {
             doc: numbers(folder, "doc.txt")?,
             used: number(&small, "used")?,
             edit: Edit { operation: number(&small, "operation")?, place: number(&small, "place")?, piece: numbers(folder, "piece.txt")? },
+            back: numbers(folder, "back.txt")?,
+            give: if folder.join("give.txt").exists() { Some(numbers(folder, "give.txt")?) } else { None },
         },
         "compare" => Case::Compare {
             old: load_table(&folder.join("old"))?,

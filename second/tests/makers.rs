@@ -1,23 +1,30 @@
 //! The random cases hold what they must: rows of every number of texts, kept and refused; content that stops at a child, a text and an end;
-//! done edits of every sort, whose children are counted once more on the tokens.
+//! done edits of every sort, whose children are counted once more on the tokens; runs of edits that are stepped back.
 
 use second::case::{Case, Memory, Outcome, Said};
-use second::make::group::{Group, PROGRAM_SLOTS, SLOTS};
+use second::make::group::{Group, SLOTS};
 use second::paper::grammar::{Content, Grammar};
 use second::paper::tree::{self, Element};
 use second::random::Random;
 
-/// Every case of so many groups, but for the runs of the edit program, and its outcome.
-fn each_case(groups: u64, visit: &mut dyn FnMut(&Case, &Outcome)) {
+/// The slots of a group that are checks, and those that are checks or edits.
+const CHECKS: std::ops::Range<u64> = 12..26;
+const CHECKS_AND_EDITS: std::ops::Range<u64> = 12..86;
+
+/// Every case in these slots of so many groups, and its outcome. Gives the runs of edits that were stepped back.
+fn each_case(groups: u64, slots: std::ops::Range<u64>, visit: &mut dyn FnMut(&Case, &Outcome)) -> Vec<usize> {
+    let mut stepped_back = Vec::new();
     for number in 0..groups {
         let mut group = Group::new(3, number);
-        for slot in 0..SLOTS - PROGRAM_SLOTS {
+        for slot in slots.clone() {
             let case = group.case(&mut Random::new(4, number * SLOTS + slot), slot, 0);
             let outcome = case.outcome();
             visit(&case, &outcome);
-            group.went(&outcome);
+            group.went(&case, &outcome);
         }
+        stepped_back.extend(group.stepped_back);
     }
+    stepped_back
 }
 
 /// The text-only elements of a tree that have no child: how many have no text, one, two or more.
@@ -35,7 +42,7 @@ fn rows(root: &Element, grammar: &Grammar) -> [usize; 3] {
 #[test]
 fn rows_of_no_text_one_and_two() {
     let (mut empty_kept, mut one_kept, mut two_refused, mut cleared) = (0, 0, 0, 0);
-    each_case(200, &mut |case, outcome| match (case, &outcome.said) {
+    each_case(300, CHECKS_AND_EDITS, &mut |case, outcome| match (case, &outcome.said) {
         (Case::Check { table, doc, used }, Said::Verdict(verdict)) => {
             if let (Some(grammar), Some(root)) = (&table.grammar, tree::document(doc, *used)) {
                 let rows = rows(&root, grammar);
@@ -59,7 +66,7 @@ fn rows_of_no_text_one_and_two() {
 #[test]
 fn content_stops_everywhere() {
     let mut stops = [[0; 3]; 2];
-    each_case(200, &mut |case, outcome| {
+    each_case(600, CHECKS, &mut |case, outcome| {
         if let (Case::Check { table, doc, .. }, Said::Verdict(verdict)) = (case, &outcome.said) {
             if verdict.number == 9 {
                 let sort = [1, 3, 2].iter().position(|sort| doc[verdict.place as usize] % 8 == *sort).expect("a start, a text or an end");
@@ -105,9 +112,9 @@ fn parent(tokens: &[u32], place: usize) -> Option<usize> {
 fn children_looked_at() {
     let mut by_operation = [[0; 3]; 5];
     let (mut roots, mut texts) = (0, 0);
-    each_case(200, &mut |case, outcome| {
-        let (edit, answer, after) = match (case, &outcome.said, &outcome.after) {
-            (Case::Edit { edit, .. }, Said::Answer(answer), Memory::Tokens(after)) => (edit, answer, after),
+    each_case(200, CHECKS_AND_EDITS, &mut |case, outcome| {
+        let (edit, answer, after) = match (case, &outcome.said, &outcome.after[..]) {
+            (Case::Edit { edit, .. }, Said::Answer(answer), [Memory::Tokens(after), _]) => (edit, answer, after),
             _ => return,
         };
         if answer.number != 0 {
@@ -134,4 +141,22 @@ fn children_looked_at() {
         assert!(row.iter().zip(can_be).all(|(count, can_be)| if can_be { *count >= 5 } else { *count == 0 }), "{by_operation:?}");
     }
     assert!(roots >= 20 && texts >= 20, "{roots} {texts}");
+}
+
+/// An edit that steps back is done, gives the document before it, and by every operation; whole runs are stepped back.
+#[test]
+fn steps_back() {
+    let mut by_operation = [0; 5];
+    let mut longest = 0;
+    let runs = each_case(200, CHECKS_AND_EDITS, &mut |case, outcome| {
+        if let (Case::Edit { edit, give: Some(tokens), .. }, Said::Answer(answer)) = (case, &outcome.said) {
+            assert_eq!((answer.number, answer.used as usize), (0, tokens.len()));
+            assert!(matches!(&outcome.after[0], Memory::Tokens(after) if after.starts_with(tokens)));
+            by_operation[edit.operation as usize - 1] += 1;
+            longest = longest.max(edit.piece.len());
+        }
+    });
+    assert!(by_operation.iter().all(|count| *count >= 50), "{by_operation:?}");
+    assert!(longest >= 8_000, "{longest}");
+    assert!(runs.len() >= 100 && runs.iter().any(|edits| *edits >= 5), "{runs:?}");
 }

@@ -1,6 +1,6 @@
 //! The paper's small shade, its four models and its six lines: by this program, and by the calls of the archive.
 
-use second::paper::edits::{edit, Answer, Edit};
+use second::paper::edits::{edit, Answer, Edit, Edited};
 use second::paper::expression::Expression;
 use second::paper::grammar::Grammar;
 use second::paper::judgement::{check, Verdict};
@@ -37,26 +37,51 @@ fn verdict(used: u64) -> Verdict {
 
 /// Number, place and used length of an edit of the document, in a buffer of 40 places; and the buffer after it.
 fn answer(operation: u32, asked: u64, piece: &[u32]) -> ((u32, u32, u64), Vec<u32>) {
-    let (answer, after) = edited(operation, asked, piece);
-    ((answer.number, answer.place, answer.used), after)
+    let Edited { answer, doc, .. } = edited(operation, asked, piece, 30);
+    ((answer.number, answer.place, answer.used), doc)
 }
 
-/// The answer of an edit of the document, in a buffer of 40 places, and the buffer after it. They are this program's and the archive's.
-fn edited(operation: u32, asked: u64, piece: &[u32]) -> (Answer, Vec<u32>) {
+/// The document in a buffer of 40 places.
+fn lent() -> Vec<u32> {
     let mut buffer = DOCUMENT.to_vec();
     buffer.resize(40, 7);
-    let (answer, after) = edit(Some(&grammar()), &buffer, 15, &Edit { operation, place: asked, piece: piece.to_vec() });
-    let Answer { number, place, used, change, children } = answer;
-    assert_eq!(i64::from(change), used as i64 - 15);
+    buffer
+}
+
+/// What an edit of the document leaves, in buffers of 40 places and of `back_room`. It is this program's and the archive's.
+fn edited(operation: u32, place: u64, piece: &[u32], back_room: usize) -> Edited {
+    edited_again(&lent(), 15, &Edit { operation, place, piece: piece.to_vec() }, back_room)
+}
+
+/// The same of any document of the small shade.
+fn edited_again(buffer: &[u32], used_before: u64, asked: &Edit, back_room: usize) -> Edited {
+    let old_back = vec![8; back_room];
+    let expected = edit(Some(&grammar()), buffer, used_before, asked, &old_back);
+    let Answer { number, place, used, change, children } = expected.answer;
+    assert_eq!(i64::from(change), used as i64 - used_before as i64);
     let (_, table) = translated(&schema_file_bytes());
-    let mut doc = buffer.clone();
-    let (words, room) = (table.len(), doc.len());
-    let (table, lent) = (table.as_ptr(), doc.as_mut_ptr());
-    let said = unsafe { library::shrike_edit(table, words, lent, room, 15, operation, asked, piece.as_ptr(), piece.len()) };
+    let (mut doc, mut back) = (buffer.to_vec(), old_back.clone());
+    let said = unsafe {
+        library::shrike_edit(
+            table.as_ptr(),
+            table.len(),
+            doc.as_mut_ptr(),
+            doc.len(),
+            used_before,
+            asked.operation,
+            asked.place,
+            asked.piece.as_ptr(),
+            asked.piece.len(),
+            back.as_mut_ptr(),
+            back.len(),
+        )
+    };
     assert_eq!((said.number, said.place, said.used, said.change, said.children), (number, place, used, change, children));
-    assert_eq!(doc, after);
-    assert!(number == 0 || after == buffer && children == 0, "a refusal changes nothing and has looked at nothing");
-    (answer, after)
+    assert_eq!((&doc, &back), (&expected.doc, &expected.back));
+    if number != 0 {
+        assert_eq!((&doc[..], back, children), (buffer, old_back, 0), "a refusal changes nothing and has looked at nothing");
+    }
+    expected
 }
 
 #[test]
@@ -133,9 +158,44 @@ fn children() {
         (4, 0, &[4, 69], 2),
         (4, 10, &[20, 165], 0),
     ] {
-        let answer = edited(operation, place, piece).0;
+        let answer = edited(operation, place, piece, 30).answer;
         assert_eq!((answer.number, answer.children), (0, children), "operation {operation} at {place}");
     }
+}
+
+/// What takes each edit back stands at the front of the second buffer, and does so; a set is taken back by what it found.
+#[test]
+fn steps_back() {
+    for (operation, place, piece, back) in [
+        (1, 10, &[9, 12, 173, 2][..], &[2, 10, 0][..]),
+        (1, 14, &[25, 20, 165, 2], &[2, 14, 0]),
+        (2, 10, &[], &[1, 10, 4, 25, 20, 165, 2]),
+        (2, 7, &[], &[1, 7, 1, 243]),
+        (3, 7, &[251], &[3, 7, 1, 243]),
+        (3, 3, &[9, 12, 165, 2], &[3, 3, 7, 9, 12, 165, 17, 243, 2, 2]),
+        (3, 0, &[1, 4, 61, 9, 12, 173, 2, 2], &[3, 0, 15, 1, 4, 61, 9, 12, 165, 17, 243, 2, 2, 25, 20, 165, 2, 2]),
+        (4, 0, &[4, 69], &[4, 0, 2, 4, 61]),
+        (4, 0, &[4, 61], &[4, 0, 2, 4, 61]),
+    ] {
+        let after = edited(operation, place, piece, back.len() + 2);
+        assert_eq!(after.answer.number, 0);
+        assert_eq!(after.back, [back, &[8, 8]].concat());
+        assert_eq!(edited(operation, place, piece, back.len()).back, back);
+        for short in 0..back.len() {
+            assert_eq!(edited(operation, place, piece, short).answer.number, 5);
+        }
+        let undone = edited_again(&after.doc, after.answer.used, &Edit::at_front(back), 30);
+        assert_eq!((undone.answer.number, undone.answer.used), (0, 15));
+        assert_eq!(undone.doc[..15], DOCUMENT);
+        let again = edited_again(&undone.doc, 15, &Edit::at_front(&undone.back), 30);
+        assert_eq!((again.answer, again.doc), (after.answer, after.doc));
+    }
+    // Room for the inverse comes before judgement and after all else.
+    assert_eq!(edited(2, 3, &[], 9).answer.number, 5);
+    assert_eq!((edited(2, 3, &[], 10).answer.number, edited(2, 3, &[], 10).answer.place), (9, 3));
+    assert_eq!(edited(2, 1, &[], 0).answer.number, 6);
+    assert_eq!(edited(4, 3, &[4, 61], 3).answer.number, 5);
+    assert_eq!(edited(4, 3, &[4, 61], 4).answer.number, 8);
 }
 
 #[test]

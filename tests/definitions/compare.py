@@ -41,10 +41,10 @@ OPERATIONS = {1: 'insert', 2: 'remove', 3: 'replace', 4: 'set', 5: 'drop'}
 
 # ------------------------------------------------- what must have occurred
 
-# Each answer that the paper lets a call give. A whole check never gives 7; a
-# removal or a drop makes nothing longer or deeper and never gives 5; an edit of
-# a valid document never gives 7. Rows in brackets count the edits once more, by
-# the document that they start from.
+# Each answer that the paper lets a call give. A whole check never gives 7; an
+# edit of a valid document never gives 7. Rows in brackets count the edits once
+# more: by the document that they start from, by how the second buffer fits (and
+# what is said where it is long enough), and sets by what they find.
 ALL = {0, 4, 5, 6, 7, 8, 9, 10, 11, 12, 13}
 REQUIRED = {
     'read': {0, 1, 5},
@@ -60,21 +60,24 @@ REQUIRED = {
     'check': {0, 4, 8, 9, 10, 11, 12, 13},
     'checking': {0, 4, 8, 9, 10, 11, 12},
     'edit insert': ALL,
-    'edit remove': ALL - {5},
+    'edit remove': ALL,
     'edit replace': ALL,
     'edit set': ALL,
-    'edit drop': ALL - {5},
+    'edit drop': ALL,
     'edit other': {4, 6, 13},
     'editBy insert': ALL - {13},
-    'editBy remove': ALL - {5, 13},
+    'editBy remove': ALL - {13},
     'editBy replace': ALL - {13},
     'editBy set': ALL - {13},
-    'editBy drop': ALL - {5, 13},
+    'editBy drop': ALL - {13},
     'editBy other': {4, 6},
     'check, own table': {0, 4, 8, 9, 10, 11, 12},
     'edit, own table': ALL - {13},
     '(valid before)': ALL - {7, 13},
     '(invalid before)': ALL - {13},
+    '(second buffer)': {'of 0', 'of 1', 'of 2', 'of 3', 'just enough', 'one short', 'short, else 0', 'short, else 8',
+                        'short, else 9', 'short, else 12', 'steps back'},
+    '(set)': {'adds', 'replaces', 'as it was'},
     'printed': {'lines', 'check not 0', 'stop 1', 'stop 2', 'stop 3', 'stop 5'},
 }
 
@@ -185,8 +188,8 @@ answers a n p = eqb (a .0) n && eqb (a .1) p
 abbrev pub tables : ℕ × List ℕ → ℕ → List ℕ → Bool
 tables a n t = eqb (a .0) n && same (a .1) t
 
-abbrev pub results : Outcome → ℕ → ℕ → ℕ → ℤ → ℕ → List ℕ → Bool
-results o n p u c k b = eqb (o .number) n && eqb (o .place) p && eqb (o .used) u && sameChange (o .change) c && eqb (o .children) k && same (o .buffer) b
+abbrev pub results : Outcome → ℕ → ℕ → ℕ → ℤ → ℕ → List ℕ → List ℕ → Bool
+results o n p u c k b s = eqb (o .number) n && eqb (o .place) p && eqb (o .used) u && sameChange (o .change) c && eqb (o .children) k && same (o .buffer) b && same (o .back) s
 
 abbrev pub each : List Bool → Bool
 each l = all (λ b. b) l
@@ -612,6 +615,8 @@ class Maker:
         if element.attributes:
             choices += [r.choice(sorted(element.attributes))] * 3
         number = r.choice(choices)
+        if number in element.attributes and self.chance(0.2):
+            return [8 * number + ATTRIBUTE] + [8 * v + VALUE for v in element.attributes[number]]
         kind = declared.get(number, (CDATA,))[0]
         ids = self.ids(context, root)
         count = r.choice([1, 2, 3]) if kind == IDREFS or self.chance(0.06) else 1
@@ -686,6 +691,13 @@ class Maker:
         if self.chance(bad):
             piece = self.bad_piece(piece)
         return operation, place, piece
+
+    def second(self, buffer, used, operation, place, piece):
+        """A second buffer, around what is needed."""
+        r = self.r
+        need = ref.needed(buffer, used, operation, place, piece) or r.choice([1, 4, 8])
+        length = r.choice([need] * 5 + [need + 1, need + 3, need + 6, need - 1, need - 1, r.randrange(4), r.randrange(need)])
+        return [r.choice([0, 1, 98, 2 ** 32 - 1]) for _ in range(length)]
 
     # -- tables
 
@@ -856,13 +868,17 @@ def check_case(context, buffer, used):
     return Case(terms, told(call='check', buffer=buffer, used=used, expected=(number, place)), lines=lines)
 
 
-def edit_case(context, buffer, used, operation, place, piece):
-    answer = ref.edit(context.table, buffer, used, operation, place, piece)
-    number, where, length, change, children, after = answer
+def edit_case(context, buffer, used, operation, place, piece, second=None):
+    """With a second buffer that has two places more than needed, if none is given."""
+    need = ref.needed(buffer, used, operation, place, piece)
+    if second is None:
+        second = [98] * ((need or 3) + 2)
+    answer = ref.edit(context.table, buffer, used, operation, place, piece, second)
+    number, where, length, change, children, after, back = answer
     own = context.file is None
     name = OPERATIONS.get(operation, 'other')
     terms = []
-    wanted = '%d %d %d %s %d %s' % (number, where, length, signed(change), children, term(after))
+    wanted = '%d %d %d %s %d %s %s' % (number, where, length, signed(change), children, term(after), term(back))
 
     def add(name, call):
         probes = [('number', '(%s) .number' % call, 4),
@@ -870,23 +886,51 @@ def edit_case(context, buffer, used, operation, place, piece):
                   ('used', '(%s) .used' % call, 14),
                   ('change as expected', 'sameChange ((%s) .change) %s' % (call, signed(change)), None),
                   ('children', '(%s) .children' % call, 14),
-                  ('buffer as expected', 'same ((%s) .buffer) %s' % (call, term(after)), None)]
-        terms.append(Term(name, number, 'results (%s) %s' % (call, wanted), len(buffer) + len(piece), probes))
+                  ('buffer as expected', 'same ((%s) .buffer) %s' % (call, term(after)), None),
+                  ('second buffer as expected', 'same ((%s) .back) %s' % (call, term(back)), None)]
+        terms.append(Term(name, number, 'results (%s) %s' % (call, wanted), len(buffer) + len(piece) + len(second), probes))
 
-    parts = '%s %d %s' % (term(buffer), used, request(operation, place, piece))
+    parts = '%s %d %s %s' % (term(buffer), used, request(operation, place, piece), term(second))
     add('edit, own table' if own and context.good else 'edit ' + name, 'edit table ' + parts)
     if not own:
-        agree('edit', answer, ref.edit_by_schema(context.schema, buffer, used, operation, place, piece))
-        add('editBy ' + name, 'outcome %s %d (editBy (ofSchema s) %s)' % (term(buffer), used, parts))
+        agree('edit', answer, ref.edit_by_schema(context.schema, buffer, used, operation, place, piece, second))
+        add('editBy ' + name, 'outcome %s %d %s (editBy (ofSchema s) %s)' % (term(buffer), used, term(second), parts))
     rows = []
     if context.good:
         before = ref.check_by_schema(context.rules, buffer, used)[0]
         if before != 4:
             rows.append(('(invalid before)' if before else '(valid before)', number))
-    lines = ('edit %d %d %d | %s | %s' % (used, operation, place, plain(buffer), plain(piece)),
-             '%s | %s' % (plain(answer[:5]), plain(after)))
+        if need is not None:
+            rows += edges(context, buffer, used, operation, place, piece, second, need)
+        if before == 0 and number == 0:
+            undone = ref.edit_by_schema(context.rules, after, length, *ref.stepping_back(back), [0] * ref.BACK)
+            agree('stepping back', (0, 0, used, -change), undone[:4])
+            agree('stepping back', buffer[:used], undone[5][:used])
+    lines = ('edit %d %d %d | %s | %s | %s' % (used, operation, place, plain(buffer), plain(piece), plain(second)),
+             '%s | %s | %s' % (plain(answer[:5]), plain(after), plain(back)))
     return Case(terms, told(call='edit', buffer=buffer, used=used, operation=operation, place=place, piece=piece,
                             expected=answer), rows, lines)
+
+
+def edges(context, buffer, used, operation, place, piece, second, need):
+    """How the second buffer fits, and what a set finds."""
+    with_room = ref.edit_by_schema(context.rules, buffer, used, operation, place, piece, [0] * need)
+    if with_room[0] == 5:
+        return []
+    labels = []
+    if len(second) < 4:
+        labels.append('of %d' % len(second))
+    if len(second) < need:
+        labels.append('short, else %d' % with_room[0])
+        if len(second) == need - 1:
+            labels.append('one short')
+    if len(second) == need:
+        labels.append('just enough')
+    rows = [('(second buffer)', label) for label in labels]
+    if operation == 4 and with_room[0] == 0:
+        back, _, old = ref.stepping_back(with_room[6])
+        rows.append(('(set)', 'adds' if back == 5 else 'as it was' if old == piece else 'replaces'))
+    return rows
 
 
 def plain(numbers):
@@ -1178,7 +1222,7 @@ class Cases:
                     break
                 asked = self.make.edit(context, tree, r.choice([1, 1, 2, 3, 4, 4, 5, 0]))
                 edits += [asked[0], asked[1], len(asked[2])] + asked[2]
-                _, _, used, _, _, buffer = ref.edit(table, buffer, used, *asked)
+                _, _, used, _, _, buffer, _ = ref.edit(table, buffer, used, *asked, [0] * ref.BACK)
             if any(number > LARGEST for number in edits):
                 continue
             edits = ref.file_of(edits)
@@ -1270,7 +1314,7 @@ class Cases:
                 return self.add(check_case(context, buffer, used), context)
         raise SystemExit('no check with answer %s' % wanted)
 
-    def edit(self, operation=None, wanted=None, contexts=None):
+    def edit(self, operation=None, wanted=None, contexts=None, row=None):
         contexts = contexts or (self.improper() if wanted == 13 else self.translated())
         for _ in range(40000):
             context, guide = self.candidates(contexts)
@@ -1285,11 +1329,41 @@ class Cases:
             if self.make.chance(0.3 if wanted == 4 else 0.02):
                 tokens = self.make.change_tokens(tokens)
             buffer, used = self.make.buffer(tokens)
+            second = self.make.second(buffer, used, op, place, piece)
             number = 13 if not context.good else \
-                ref.edit_by_schema(context.rules, buffer, used, op, place, piece)[0]
+                ref.edit_by_schema(context.rules, buffer, used, op, place, piece, second)[0]
             if wanted in (None, number):
-                return self.add(edit_case(context, buffer, used, op, place, piece), context)
-        raise SystemExit('no edit %s with answer %s' % (operation, wanted))
+                case = edit_case(context, buffer, used, op, place, piece, second)
+                if row is None or row in case.rows:
+                    return self.add(case, context)
+        raise SystemExit('no edit %s with answer %s' % (operation, row or wanted))
+
+    def run_back(self):
+        """A run of edits of a valid document, and the way back by what each
+        left in its second buffer."""
+        context = self.r.choice(self.translated() + self.own())
+        first = ref.lay(self.make.document(context))
+        if not self.valid(context, first):
+            return self.run_back()
+        buffer, used, steps = first + [7] * self.r.choice([0, 4, 12]), len(first), []
+        for _ in range(self.r.choice([2, 3, 4, 5])):
+            for _ in range(20):
+                asked = self.make.edit(context, ref.tree_of(buffer[:used]), self.r.choice([1, 1, 2, 3, 3, 4, 4, 5]))
+                second = [98] * ((ref.needed(buffer, used, *asked) or 3) + self.r.choice([0, 0, 2]))
+                number, _, length, _, _, after, back = ref.edit_by_schema(context.rules, buffer, used, *asked, second)
+                if number == 0:
+                    self.add(edit_case(context, buffer, used, *asked, second), context)
+                    steps.append(ref.stepping_back(back))
+                    buffer, used = after, length
+                    break
+        while steps:
+            asked = steps.pop()
+            case = edit_case(context, buffer, used, *asked, [98] * ref.needed(buffer, used, *asked))
+            case.rows.append(('(second buffer)', 'steps back'))
+            self.add(case, context)
+            number, _, used, _, _, buffer, _ = ref.edit_by_schema(context.rules, buffer, used, *asked, [0] * ref.BACK)
+            agree('stepping back', number, 0)
+        agree('a run stepped back', buffer[:used], first)
 
     # -- large ones
 
@@ -1355,6 +1429,17 @@ class Cases:
         few = [1, 9, 12, 5, 2, 9, 2, 2] + [7] * 9000
         for piece in ([20] + [5] * 8184, [20] + [5] * 8183, [20] + [5] * 8191, [20] + [5] * 8192):
             add(edit_case(wide, few, 8, 4, 1, piece), wide)
+        # second buffers for inverses of over 8,000 tokens, and none or few places
+        long = [1, 9, 12, 5, 20] + [5] * 8184 + [2, 2]
+        for second in (8187, 8188, 8189):
+            add(edit_case(wide, long, 8191, 5, 1, [20], [9] * second), wide)
+            add(edit_case(wide, long, 8191, 4, 1, [20, 5], [9] * second), wide)
+        for second in (8194, 8195, 8196):
+            add(edit_case(wide, room, 8192, 3, 0, [1, 9, 2, 2], [9] * second), wide)
+        for second in range(6):
+            for operation, place, piece in ((1, 1, [9, 2]), (2, 1, []), (3, 5, [9, 4, 5, 2]), (4, 5, [4, 5]), (4, 1, [12, 5]),
+                                            (4, 1, [12, 13]), (5, 1, [12]), (3, 0, [9, 2]), (2, 0, []), (1, 1, [3])):
+                add(edit_case(wide, few[:20], 8, operation, place, piece, [9] * second), wide)
 
         # a? inside a: sixty-four deep
         nest = self.translated_context([1, 0, 2, 2, 2, 5, 0])
@@ -1365,7 +1450,7 @@ class Cases:
                                             (3, 0, [1] * 65 + [2] * 65), (3, depth - 1, [1, 1, 2, 2]),
                                             (1, 1, [1] * 65 + [2] * 65), (1, 0, [1] * 65 + [2] * 65)):
                 add(edit_case(nest, tokens + [7] * 10, len(tokens), operation, place, piece), nest)
-        self.told_apart(context, nest)
+        self.told_apart(context, nest, wide)
 
         # occurrence 63: sixty-four names of two elements in turn
         symbols = [0] * 63 + [6, 7] * 32
@@ -1410,7 +1495,7 @@ class Cases:
                         [3, 0, 3, 6, 3, 7], [4] * 200 + [0, 6, 7], [1] * 8 + [6] * 9):
             add(translate_case(ref.file_of(ref.SHADE[:2] + [2, len(symbols)] + symbols + ref.SHADE[9:]), [0] * TABLE))
 
-    def told_apart(self, shade, nest):
+    def told_apart(self, shade, nest, wide):
         """With every seed: a case for each slip that no law and no P case notices (tests/wrong-definitions --compare)."""
         panel = [9, 12, 173, 2]
         faulty = [1, 4, 61, 9, 12, 165, 2, 25, 2, 2]        # the fault is directly behind the piece
@@ -1418,6 +1503,15 @@ class Cases:
         self.add(edit_case(shade, ref.SHADE_DOC, 15, 1, 0, panel), shade)       # not a place, and no room
         self.add(edit_case(shade, ref.SHADE_DOC + [7] * 6, 15, 2, 10, []), shade)
         self.add(edit_case(shade, faulty + [7] * 6, 10, 1, 7, panel), shade)
+        room = ref.SHADE_DOC + [7] * 6
+        for operation, place, piece in ((2, 10, []), (3, 3, [9, 12, 165, 2]), (4, 0, [4, 69]), (4, 0, [4, 61]), (1, 10, panel)):
+            need = ref.needed(room, 15, operation, place, piece)
+            for length in (need - 1, need, need + 2):
+                self.add(edit_case(shade, room, 15, operation, place, piece, [98] * length), shade)
+        self.add(edit_case(shade, room, 15, 2, 3, [], [98] * 9), shade)         # no room for the inverse, and then content
+        self.add(edit_case(shade, room, 15, 2, 3, [], [98] * 12), shade)
+        self.add(edit_case(wide, [1, 9, 2, 2] + [7] * 6, 4, 4, 1, [4, 5], [98] * 5), wide)
+        self.add(edit_case(wide, [1, 9, 4, 5, 12, 5, 2, 2], 8, 5, 1, [12], [98] * 6), wide)
         rows = [17, 243, 2, 17, 2]                          # of the piece's elements, one has children and one has a text
         self.add(edit_case(shade, ref.SHADE_DOC + [7] * 9, 15, 1, 3, [9, 12, 173] + rows + [2]), shade)
         self.add(edit_case(shade, ref.SHADE_DOC + [7] * 9, 15, 3, 0, [1, 4, 61, 9, 12, 173] + rows + [2, 2]), shade)
@@ -1457,6 +1551,12 @@ class Cases:
                 self.check(number, self.own())
             elif call == 'edit, own table':
                 self.edit(None, number, self.own())
+            elif number == 'steps back':
+                self.run_back()
+            elif call == '(second buffer)':
+                self.edit(None, None if number == 'just enough' else 5, row=(call, number))
+            elif call == '(set)':
+                self.edit(4, row=(call, number))
             elif call.startswith('('):
                 while number not in self.counts.get(call, {}):
                     self.edit(None, number)
@@ -1466,7 +1566,7 @@ class Cases:
                 (self.comparison, 5)]
         checks = sorted(REQUIRED['check'])
         pairs = [(op, number) for op, name in OPERATIONS.items() for number in sorted(REQUIRED['editBy ' + name])]
-        ways += [(lambda: self.check(), 4), (lambda: self.check(r.choice(checks)), 10),
+        ways += [(self.run_back, 1), (lambda: self.check(), 4), (lambda: self.check(r.choice(checks)), 10),
                  (lambda: self.check(r.choice([None, 0, 9]), self.own()), 6),
                  (lambda: self.edit(), 8), (lambda: self.edit(None, 0), 6),
                  (lambda: self.edit(*r.choice(pairs)), 20),
@@ -1646,7 +1746,7 @@ def compared_with(program, cases):
     if done.returncode or len(answers) != len(wanted):
         print('%s ends with %d after %d of %d answers' % (program, done.returncode, len(answers), len(wanted)))
         return 2
-    bad = [pair for pair in zip(wanted, answers) if pair[0][0].lines[1] != pair[1].strip()]
+    bad = [pair for pair in zip(wanted, answers) if pair[0][0].lines[1].split() != pair[1].split()]
     for (case, context), answer in bad[:5]:
         print('schema file: %s\n%s\n    second: %s\n' % (context.file, case.told, answer))
     print('%d checks and edits of both programs, %d differ' % (len(wanted), len(bad)))

@@ -19,6 +19,7 @@ TABLE = 6626             # numbers of a table
 BLOCK = 138              # numbers of one element in a table
 FILE = 65536             # most bytes of a file of the edit program
 SEQUENCE = 4290          # fewest places for a lost sequence
+BACK = 3 + TOKENS        # most numbers of an edit that takes another one back
 
 START, END, TEXT, ATTRIBUTE, VALUE = 1, 2, 3, 4, 5
 CDATA, ID, IDREF, IDREFS = 0, 1, 2, 3
@@ -780,13 +781,15 @@ def find(root, place):
 
 def changed(root, operation, place, given):
     """The tree after an edit, the touched parent (or the element that is set or
-    dropped; None for a replaced root) and the elements of the piece; raises
-    Refused."""
+    dropped; None for a replaced root), the elements of the piece, and operation
+    and piece of the edit that takes it back; raises Refused."""
+    before = lay(root)
     spot = find(root, place)
     if spot is None:
         raise Refused(6)
     sort, there = spot
     new_ones = list(given.elements()) if isinstance(given, Element) else []
+    old = before[place:(there.end if sort == START else place) + 1]        # the whole element, or the text
     if operation == 1:
         if place == 0:
             raise Refused(6)
@@ -795,63 +798,86 @@ def changed(root, operation, place, given):
         else:
             parent, index = there.parent, there.parent.children.index(there)
         adopt(parent, index, given)
-        return root, parent, new_ones
+        return root, parent, new_ones, (2, [])
     if operation == 2:
         if sort == END or place == 0:
             raise Refused(6)
         there.parent.children.remove(there)
-        return root, there.parent, []
+        return root, there.parent, [], (1, old)
     if operation == 3:
         if sort == END:
             raise Refused(6)
         if place == 0:
             if isinstance(given, Text):
                 raise Refused(6)
-            return given, None, new_ones
+            return given, None, new_ones, (3, old)
         parent = there.parent
         index = parent.children.index(there)
         parent.children.remove(there)
         adopt(parent, index, given)
-        return root, parent, new_ones
+        return root, parent, new_ones, (3, old)
     if sort != START:
         raise Refused(6)
     number, values = given
+    token = 8 * number + ATTRIBUTE
+    if number in there.attributes:
+        back = 4, [token] + [8 * value + VALUE for value in there.attributes[number]]
+    elif operation == 4:
+        back = 5, [token]
+    else:
+        raise Refused(6)
     if operation == 4:
         there.attributes[number] = values
     else:
-        if number not in there.attributes:
-            raise Refused(6)
         del there.attributes[number]
-    return root, there, []
+    return root, there, [], back
 
 
-def edit_by_schema(schema, buffer, used, operation, place, piece):
-    """(number, place, used after, change, children looked at, buffer after)"""
+def edit_by_schema(schema, buffer, used, operation, place, piece, second):
+    """(number, place, used after, change, children looked at, buffer after,
+    second buffer after)"""
     try:
         root = document(buffer, used)
-        lay(root)
         if not 1 <= operation <= 5:
             raise Refused(6)
         given = piece_of(operation, piece)
-        root, parent, new_ones = changed(root, operation, place, given)
+        root, parent, new_ones, (other, old) = changed(root, operation, place, given)
         tokens = lay(root)
         if len(tokens) > TOKENS or len(tokens) > len(buffer) or root.height() > DEPTH:
             raise Refused(5)
+        inverse = [other, place, len(old)] + old        # item 2
+        if len(second) < len(inverse):
+            raise Refused(5)
         judge(schema, root, new_ones if parent is None else [parent] + new_ones)
     except Refused as refused:
-        return refused.number, refused.place, used, 0, 0, list(buffer)
+        return refused.number, refused.place, used, 0, 0, list(buffer), list(second)
     length = len(tokens)
     after = tokens + [0] * (used - length) + list(buffer[max(used, length):])
     # item 10: those of the touched parent, plus those of every element in the piece
     children = (0 if parent is None else len(parent.children)) + sum(len(one.children) for one in new_ones)
-    return 0, 0, length, length - used, children, after
+    return 0, 0, length, length - used, children, after, inverse + list(second[len(inverse):])
 
 
-def edit(table, buffer, used, operation, place, piece):
-    """(number, place, used after, change, children looked at, buffer after)"""
+def edit(table, buffer, used, operation, place, piece, second):
+    """(number, place, used after, change, children looked at, buffer after,
+    second buffer after)"""
     if not proper(table):
-        return 13, 0, used, 0, 0, list(buffer)
-    return edit_by_schema(rules_of(table), buffer, used, operation, place, piece)
+        return 13, 0, used, 0, 0, list(buffer), list(second)
+    return edit_by_schema(rules_of(table), buffer, used, operation, place, piece, second)
+
+
+def needed(buffer, used, operation, place, piece):
+    """How many places of the second buffer an edit needs; None if it is refused
+    before its result is looked at."""
+    try:
+        return 3 + len(changed(document(buffer, used), operation, place, piece_of(operation, piece))[3][1])
+    except Refused:
+        return None
+
+
+def stepping_back(second):
+    """Operation, place and piece of the edit that stands in a second buffer."""
+    return second[0], second[1], second[3:3 + second[2]]
 
 
 # ---------------------------------------------------------------- compare
@@ -935,7 +961,7 @@ def run(schema_file, doc_file, edits_file, out):
         if count > TOKENS:
             raise Refused(5)
         piece = [source.next() for _ in range(count)]
-        number, place, used, _, _, buffer = edit(table, buffer, used, operation, place, piece)
+        number, place, used, _, _, buffer, _ = edit(table, buffer, used, operation, place, piece, [0] * BACK)
         line += 1
         out.append('%d %d %d %d' % (line, number, place, used))
 
@@ -1003,13 +1029,27 @@ def self_test():
     same(check(table, SHADE_DOC, 15), (0, 0))
     same(check_by_schema(schema, SHADE_DOC, 15), (0, 0))
 
+    def step_back(table, before, got):
+        """A done edit is taken back by what it left in the second buffer, and
+        made again by what that leaves, each in the same buffer."""
+        _, _, used, change, children, buffer, second = got
+        back = edit(table, buffer, used, *stepping_back(second), [97] * BACK)
+        same(back[:4], (0, 0, len(before), -change))
+        same(back[5][:len(before)], before)
+        again = edit(table, back[5], back[2], *stepping_back(back[6]), second)
+        same(again[:5], (0, 0, used, change, children))
+        same(again[5][:used], buffer[:used])
+        same(again[6], second)
+
     def try_edit(operation, place, piece, wanted, children=None):
         room = SHADE_DOC + [99] * 10
-        got = edit(table, room, 15, operation, place, piece)
-        same(edit_by_schema(schema, room, 15, operation, place, piece), got)
+        second = [98] * 30
+        got = edit(table, room, 15, operation, place, piece, second)
+        same(edit_by_schema(schema, room, 15, operation, place, piece, second), got)
         if wanted[0]:
-            same(got, (wanted[0], wanted[1], 15, 0, 0, room))
+            same(got, (wanted[0], wanted[1], 15, 0, 0, room, second))
         else:
+            step_back(table, SHADE_DOC, got)
             same(got[:4], (0, 0, wanted[1], wanted[1] - 15))
             same(children in (None, got[4]), True)
             same(len(got[5]), 25)
@@ -1056,6 +1096,32 @@ def self_test():
     try_edit(4, 3, [12, 165], (0, 15), 1)
     try_edit(4, 10, [20, 165], (0, 15), 0)
 
+    # what takes an edit back (item 2): operation, place, count and piece
+    def try_back(operation, place, piece, inverse):
+        room = SHADE_DOC + [99] * 10
+        for length in (len(inverse), len(inverse) + 2, BACK):
+            got = edit(table, room, 15, operation, place, piece, [98] * length)
+            same(got[:2], (0, 0))
+            same(got[6], inverse + [98] * (length - len(inverse)))
+        for length in range(len(inverse)):
+            same(edit(table, room, 15, operation, place, piece, [98] * length), (5, 0, 15, 0, 0, room, [98] * length))
+
+    try_back(1, 10, [9, 12, 173, 2], [2, 10, 0])
+    try_back(1, 14, [25, 20, 165, 2], [2, 14, 0])
+    try_back(2, 10, [], [1, 10, 4, 25, 20, 165, 2])
+    try_back(2, 7, [], [1, 7, 1, 243])
+    try_back(3, 7, [251], [3, 7, 1, 243])
+    try_back(3, 3, [9, 12, 165, 2], [3, 3, 7, 9, 12, 165, 17, 243, 2, 2])
+    try_back(3, 0, [1, 4, 61, 9, 12, 173, 2, 2], [3, 0, 15] + SHADE_DOC)
+    try_back(4, 0, [4, 69], [4, 0, 2, 4, 61])
+    try_back(4, 0, [4, 61], [4, 0, 2, 4, 61])
+    room = SHADE_DOC + [99] * 10
+    same(edit(table, room, 15, 2, 3, [], [98] * 9)[:2], (5, 0))          # before judgement
+    same(edit(table, room, 15, 2, 3, [], [98] * 10)[:2], (9, 3))
+    same(edit(table, room, 15, 2, 1, [], [])[:2], (6, 0))                # after the place
+    same(edit(table, room, 15, 4, 3, [4, 61], [98] * 3)[:2], (5, 0))     # taken back by a drop
+    same(edit(table, room, 15, 4, 3, [4, 61], [98] * 4)[:2], (8, 3))
+
     # where content stops (item 3)
     try_edit(1, 10, [243], (9, 10))
     try_edit(1, 14, [243], (9, 14))
@@ -1092,9 +1158,9 @@ def self_test():
     nest = translate(file_of([1, 0, 2, 2, 2, 5, 0]), [0] * TABLE)[1]
     same(check(nest, [1] * 64 + [2] * 64, 128), (0, 0))
     same(check(nest, [1] * 65 + [2] * 65, 130), (4, 0))
-    same(edit(nest, [1] * 63 + [2] * 63 + [0] * 4, 126, 1, 63, [1, 1, 2, 2])[:4], (5, 0, 126, 0))
-    same(edit(nest, [1] * 63 + [2] * 63 + [0] * 4, 126, 1, 63, [1, 2])[:4], (0, 0, 128, 2))
-    same(edit(nest, [1] * 63 + [2] * 63 + [0] * 4, 126, 1, 63, [1] * 65 + [2] * 65)[:2], (4, 0))
+    same(edit(nest, [1] * 63 + [2] * 63 + [0] * 4, 126, 1, 63, [1, 1, 2, 2], [0] * 3)[:4], (5, 0, 126, 0))
+    same(edit(nest, [1] * 63 + [2] * 63 + [0] * 4, 126, 1, 63, [1, 2], [0] * 3)[:4], (0, 0, 128, 2))
+    same(edit(nest, [1] * 63 + [2] * 63 + [0] * 4, 126, 1, 63, [1] * 65 + [2] * 65, [0] * 3)[:2], (4, 0))
 
     # random models: words found by spelling out the expression, against
     # steps, ambiguity and the run of the table

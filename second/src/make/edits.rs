@@ -1,14 +1,18 @@
 //! Random edits of a document: fitting ones, and ones with a fault in operation, place or piece.
 
-use super::documents::Ground;
+use super::documents::{self, Ground, Scale};
 use super::{faults, keys, pieces};
 use crate::paper::edits::{element_at, spot, Edit, Spot, DROP, INSERT, REMOVE, REPLACE, SET};
-use crate::paper::grammar::Content;
-use crate::paper::tree::{Element, Item, Token};
+use crate::paper::grammar::{Content, Kind};
+use crate::paper::tree::{Attribute, Element, Item, Token};
+use crate::paper::MOST_TOKENS;
 use crate::random::Random;
 
 /// An edit of a document that has shape.
 pub fn edit(random: &mut Random, ground: &Ground, root: &Element) -> Edit {
+    if random.chance(4) {
+        return heavy(random, ground, root);
+    }
     let operation = match pieces::operation(random) {
         REMOVE if root.content.is_empty() && random.chance(90) => INSERT,
         operation => operation,
@@ -18,6 +22,39 @@ pub fn edit(random: &mut Random, ground: &Ground, root: &Element) -> Edit {
         disturb(random, ground, root, &mut edit);
     }
     edit
+}
+
+/// An edit that brings or takes away thousands of tokens: another document, or a list of references that fills this one.
+fn heavy(random: &mut Random, ground: &Ground, root: &Element) -> Edit {
+    if random.chance(50) {
+        if let Some(edit) = long_references(random, ground, root) {
+            return edit;
+        }
+    }
+    let scale = *random.pick(&[Scale::Tiny, Scale::Full]);
+    Edit { operation: REPLACE, place: 0, piece: documents::document(random, ground, scale).tokens() }
+}
+
+/// A drop or a set of an IDREFS attribute, the document growing to 8,192 tokens if it was not there; None if there is no place for one.
+fn long_references(random: &mut Random, ground: &Ground, root: &Element) -> Option<Edit> {
+    let list_of = |token: u32| match Token::of(token) {
+        Some(Token::Start(name)) => ground.grammar.declaration(name)?.attributes.iter().find(|known| known.kind == Kind::Idrefs),
+        _ => None,
+    };
+    let tokens = root.tokens();
+    let places: Vec<usize> = (0..tokens.len()).filter(|place| list_of(tokens[*place]).is_some()).collect();
+    let ids = keys::ids(root, ground.grammar);
+    if places.is_empty() || ids.is_empty() {
+        return None;
+    }
+    let place = *random.pick(&places);
+    let number = list_of(tokens[place])?.number;
+    let count = (MOST_TOKENS - 1).saturating_sub(tokens.len()).max(1);
+    let piece = Attribute { number, values: vec![*random.pick(&ids); count] }.tokens();
+    match random.chance(40) {
+        true => Some(Edit { operation: DROP, place: place as u64, piece: piece[..1].to_vec() }),
+        false => Some(Edit { operation: SET, place: place as u64, piece }),
+    }
 }
 
 /// An edit of tokens without shape.
@@ -164,7 +201,7 @@ fn can_go(ground: &Ground, root: &mut Element, spot: &Spot) -> bool {
 fn attribute_edit(random: &mut Random, ground: &Ground, element: &Element, ids: &[u16], edit: &mut Edit) -> bool {
     edit.piece.clear();
     if edit.operation == SET {
-        pieces::attribute(random, ground, element, ids).put_tokens(&mut edit.piece);
+        edit.piece = pieces::attribute(random, ground, element, ids).tokens();
         return ground.grammar.declaration(element.name).map_or(true, |declaration| !declaration.attributes.is_empty());
     }
     if element.attributes.is_empty() {

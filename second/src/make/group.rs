@@ -2,9 +2,10 @@
 //! slot in it. The slots of a group are made in order, as a run of edits goes on from the outcome of the last.
 
 use super::documents::{self, Ground, Scale};
+use super::runs::Run;
 use super::sizes::Sizes;
 use super::{bad_texts, compares, edits, faults, files, programs, schemas, tables, texts};
-use crate::case::{Case, Memory, Outcome, Said, Table};
+use crate::case::{Case, Outcome, Table};
 use crate::paper::compare::LEAST_ROOM;
 use crate::paper::table::WORDS;
 use crate::paper::{dtd, tree};
@@ -12,7 +13,7 @@ use crate::random::Random;
 use std::rc::Rc;
 
 /// Slots of a group, and how many of them, the last ones, are runs of the edit program.
-pub const SLOTS: u64 = 76;
+pub const SLOTS: u64 = 102;
 pub const PROGRAM_SLOTS: u64 = 4;
 
 /// A table with what is needed to grow documents for it.
@@ -33,13 +34,6 @@ impl Base {
     }
 }
 
-/// The document that a run of edits has reached.
-struct Run {
-    buffer: Vec<u32>,
-    used: u64,
-    edits_left: usize,
-}
-
 pub struct Group {
     number: usize,
     schema: Base,
@@ -47,6 +41,8 @@ pub struct Group {
     scale: Scale,
     run: Run,
     run_is_drawn: bool,
+    /// The runs of edits that were stepped back whole: how many edits each had.
+    pub stepped_back: Vec<usize>,
 }
 
 impl Group {
@@ -55,8 +51,8 @@ impl Group {
         let schema = Base::new(Table::of_schema(schemas::schema(&mut random))).expect("a schema's table is proper");
         let drawn = Base::new(Table::of_words(tables::proper(&mut random))).expect("a table drawn to be proper");
         let scale = Scale::draw(&mut random);
-        let run = Run { buffer: Vec::new(), used: 0, edits_left: 0 };
-        Group { number: number as usize, schema, drawn, scale, run, run_is_drawn: false }
+        let run = Run::new(Vec::new(), 0, 0);
+        Group { number: number as usize, schema, drawn, scale, run, run_is_drawn: false, stepped_back: Vec::new() }
     }
 
     /// The case of a slot; `random` is its own. `programs` counts the groups before this one that ran the edit program.
@@ -74,8 +70,8 @@ impl Group {
                 Case::Write { tokens, buffer }
             }
             12..=25 => self.check(random),
-            26..=59 => self.edit(random),
-            60..=67 => self.text(random, slot - 60),
+            26..=85 => self.edit(random),
+            86..=93 => self.text(random, slot - 86),
             _ if slot < programs_from => self.compare(random),
             _ => {
                 let way = (programs * PROGRAM_SLOTS + slot - programs_from) as usize;
@@ -85,13 +81,8 @@ impl Group {
     }
 
     /// What a later slot must know of the outcome.
-    pub fn went(&mut self, outcome: &Outcome) {
-        if let (Said::Answer(answer), Memory::Tokens(after)) = (&outcome.said, &outcome.after) {
-            if answer.number == 0 {
-                self.run.buffer = after.clone();
-                self.run.used = answer.used;
-            }
-        }
+    pub fn went(&mut self, case: &Case, outcome: &Outcome) {
+        self.stepped_back.extend(self.run.went(case, outcome));
     }
 
     fn schema_file(&self) -> Vec<u8> {
@@ -186,22 +177,25 @@ impl Group {
     }
 
     fn edit(&mut self, random: &mut Random) -> Case {
+        if let Some(case) = self.run.step(random) {
+            return case;
+        }
         if self.run.edits_left == 0 {
             self.run_is_drawn = random.chance(20);
             let base = if self.run_is_drawn { &self.drawn } else { &self.schema };
             let (buffer, used) = lent_document(random, &base.ground(), self.scale);
             let has_shape = tree::document(&buffer, used).is_some();
-            self.run = Run { buffer, used, edits_left: if has_shape { random.within(1, 10) } else { 1 } };
+            self.run = Run::new(buffer, used, if has_shape { random.within(1, 10) } else { 1 });
         }
-        self.run.edits_left -= 1;
         let base = if self.run_is_drawn { &self.drawn } else { &self.schema };
-        let doc = self.run.buffer.clone();
-        let edit = match tree::document(&doc, self.run.used) {
+        let room = self.run.buffer.len();
+        let edit = match tree::document(&self.run.buffer, self.run.used) {
             Some(root) => edits::edit(random, &base.ground(), &root),
-            None => edits::blind(random, &base.ground(), doc.len()),
+            None => edits::blind(random, &base.ground(), room),
         };
-        let used = if random.chance(4) { other_used(random, self.run.used, doc.len()) } else { self.run.used };
-        Case::Edit { table: lent_table(random, base), doc, used, edit }
+        let used = if random.chance(4) { other_used(random, self.run.used, room) } else { self.run.used };
+        let table = lent_table(random, base);
+        self.run.edit(random, table, used, edit)
     }
 
     fn program(&self, random: &mut Random, way: usize) -> crate::paper::program::Files {

@@ -11,6 +11,7 @@ pub mod group;
 pub mod keys;
 pub mod pieces;
 pub mod programs;
+pub mod runs;
 pub mod schemas;
 pub mod sizes;
 pub mod tables;

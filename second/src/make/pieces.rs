@@ -80,8 +80,11 @@ pub fn long(random: &mut Random, operation: u32, name: u16, attribute: u16, used
     }
 }
 
-/// The attribute of a set: allowed and with fitting values, mostly.
+/// The attribute of a set: allowed and with fitting values, mostly; now and then one that is there, as it is.
 pub fn attribute(random: &mut Random, ground: &Ground, element: &Element, ids: &[u16]) -> Attribute {
+    if !element.attributes.is_empty() && random.chance(12) {
+        return random.pick(&element.attributes).clone();
+    }
     let known = ground.grammar.declaration(element.name).map_or(&[][..], |declaration| &declaration.attributes);
     if known.is_empty() || random.chance(10) {
         let values = (0..random.within(1, 3)).map(|_| random.short()).collect();

@@ -2,7 +2,7 @@
 
 use super::documents::{self, Ground, Scale};
 use super::{edits, faults, files, schemas};
-use crate::paper::edits::{self as paper_edits, Edit, Spot, INSERT, REPLACE};
+use crate::paper::edits::{self as paper_edits, Edit, Spot, INSERT, LONGEST_BACK, REPLACE};
 use crate::paper::program::{printed, Files, LONGEST_FILE};
 use crate::paper::tree::{self, Element};
 use crate::paper::{answer, judgement, numbers, schema_file, DEEPEST, MOST_TOKENS};
@@ -113,18 +113,18 @@ fn document_and_edits(random: &mut Random, ground: &Ground, scale: Scale) -> (Ve
         let number = EDIT_ANSWERS[line % EDIT_ANSWERS.len()];
         let mut draw = |random: &mut Random| {
             let edit = in_form(aimed(random, ground, &root, number));
-            let outcome = paper_edits::edit(Some(ground.grammar), &buffer, used, &edit);
+            let outcome = paper_edits::edit(Some(ground.grammar), &buffer, used, &edit, &[0; LONGEST_BACK]);
             (edit, outcome)
         };
         let tries = if used > 1_000 { 3 } else { 20 };
-        let (edit, (answer, after)) = drawn_until(random, tries, &mut draw, &|drawn| drawn.1 .0.number == number);
-        let bytes = bytes_of(&edit);
+        let (edit, outcome) = drawn_until(random, tries, &mut draw, &|drawn| drawn.1.answer.number == number);
+        let bytes = numbers::file_of(&edit.numbers());
         if file.len() + bytes.len() > LONGEST_FILE || edit.piece.len() > MOST_TOKENS {
             break;
         }
         file.extend(bytes);
-        buffer = after;
-        used = answer.used;
+        buffer = outcome.doc;
+        used = outcome.answer.used;
     }
     (doc, file)
 }
@@ -164,12 +164,6 @@ fn in_form(mut edit: Edit) -> Edit {
         *token = (*token).min(numbers::LARGEST);
     }
     edit
-}
-
-/// Operation, place, count and piece.
-fn bytes_of(edit: &Edit) -> Vec<u8> {
-    let head = [edit.operation, edit.place as u32, edit.piece.len() as u32];
-    [numbers::file_of(&head), numbers::file_of(&edit.piece)].concat()
 }
 
 /// A schema of its own and a document of it with faults.

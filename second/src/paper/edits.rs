@@ -12,11 +12,28 @@ pub const REPLACE: u32 = 3;
 pub const SET: u32 = 4;
 pub const DROP: u32 = 5;
 
+/// The most numbers of an edit that takes another one back: operation, place, piece count, and a whole document.
+pub const LONGEST_BACK: usize = 3 + MOST_TOKENS;
+
 #[derive(Clone, Debug, PartialEq)]
 pub struct Edit {
     pub operation: u32,
     pub place: u64,
     pub piece: Vec<u32>,
+}
+
+impl Edit {
+    /// Item 2: "operation, place, piece count and piece, as 32-bit numbers".
+    pub fn numbers(&self) -> Vec<u32> {
+        let head = [self.operation, self.place as u32, self.piece.len() as u32];
+        [&head[..], &self.piece].concat()
+    }
+
+    /// The edit that stands at the front of a second buffer.
+    pub fn at_front(numbers: &[u32]) -> Edit {
+        let count = numbers[2] as usize;
+        Edit { operation: numbers[0], place: u64::from(numbers[1]), piece: numbers[3..3 + count].to_vec() }
+    }
 }
 
 #[derive(Clone, Copy, Debug, PartialEq)]
@@ -27,6 +44,14 @@ pub struct Answer {
     pub change: i32,
     /// Item 10: the children and texts of the touched elements in the edited document; 0 if refused.
     pub children: u32,
+}
+
+/// What holds after an edit: the answer, the document's buffer and the second one.
+#[derive(Clone, Debug, PartialEq)]
+pub struct Edited {
+    pub answer: Answer,
+    pub doc: Vec<u32>,
+    pub back: Vec<u32>,
 }
 
 /// A good piece of one of the five operations.
@@ -49,22 +74,29 @@ pub enum Spot {
     Other,
 }
 
-/// The answer of an edit and the buffer after it.
-pub fn edit(grammar: Option<&Grammar>, buffer: &[u32], used: u64, edit: &Edit) -> (Answer, Vec<u32>) {
-    let mut after = buffer.to_vec();
-    let answer = match edited(grammar, buffer, used, edit) {
+/// An edit of the document in a buffer, with a second buffer for what takes it back.
+pub fn edit(grammar: Option<&Grammar>, buffer: &[u32], used: u64, edit: &Edit, back: &[u32]) -> Edited {
+    let (mut doc, mut back) = (buffer.to_vec(), back.to_vec());
+    let answer = match edited(grammar, buffer, used, edit, back.len()) {
         Err((number, place)) => Answer { number, place, used, change: 0, children: 0 },
-        Ok(root) => {
+        Ok((root, inverse)) => {
             let tokens = root.tokens();
-            for token in &mut after[..used as usize] {
+            for token in &mut doc[..used as usize] {
                 *token = 0;
             }
-            after[..tokens.len()].copy_from_slice(&tokens);
+            doc[..tokens.len()].copy_from_slice(&tokens);
+            let inverse = inverse.numbers();
+            back[..inverse.len()].copy_from_slice(&inverse);
             let change = tokens.len() as i64 - used as i64;
             Answer { number: DONE, place: 0, used: tokens.len() as u64, change: change as i32, children: looked_at(&root) }
         }
     };
-    (answer, after)
+    Edited { answer, doc, back }
+}
+
+/// What takes an edit back, if it is in form and the document has room for it.
+pub fn inverse(buffer: &[u32], used: u64, edit: &Edit) -> Option<Edit> {
+    prepared(buffer, used, edit).ok().map(|(_, inverse)| inverse)
 }
 
 /// The children and texts of all touched elements: of the parent, or of the element that is set or dropped, and of each in the piece.
@@ -78,25 +110,34 @@ fn looked_at(root: &Element) -> u32 {
     count
 }
 
-/// The edited document, or number and place of the refusal.
-fn edited(grammar: Option<&Grammar>, buffer: &[u32], used: u64, edit: &Edit) -> Result<Element, (u32, u32)> {
+/// The edited document and the edit that takes it back, or number and place of the refusal.
+fn edited(grammar: Option<&Grammar>, buffer: &[u32], used: u64, edit: &Edit, back_room: usize) -> Result<(Element, Edit), (u32, u32)> {
     let grammar = grammar.ok_or((TABLE, 0))?;
+    let (root, inverse) = prepared(buffer, used, edit)?;
+    if inverse.numbers().len() > back_room {
+        return Err((ROOM, 0));
+    }
+    let verdict = judgement::judge(&root, grammar);
+    match verdict.number {
+        DONE => Ok((root, inverse)),
+        number => Err((number, verdict.place)),
+    }
+}
+
+/// All that comes before the second buffer and judgement.
+fn prepared(buffer: &[u32], used: u64, edit: &Edit) -> Result<(Element, Edit), (u32, u32)> {
     let mut root = tree::document(buffer, used).ok_or((SHAPE, 0))?;
     if !(INSERT..=DROP).contains(&edit.operation) {
         return Err((PLACE, 0));
     }
     let piece = piece_of(edit).ok_or((SHAPE, 0))?;
     let spot = spot(&root, edit.place);
-    apply(&mut root, spot, piece).ok_or((PLACE, 0))?;
+    let (operation, piece) = apply(&mut root, spot, piece).ok_or((PLACE, 0))?;
     let size = root.size();
     if size > MOST_TOKENS || root.depth() > DEEPEST || size > buffer.len() {
         return Err((ROOM, 0));
     }
-    let verdict = judgement::judge(&root, grammar);
-    match verdict.number {
-        DONE => Ok(root),
-        number => Err((number, verdict.place)),
-    }
+    Ok((root, Edit { operation, place: edit.place, piece }))
 }
 
 fn piece_of(edit: &Edit) -> Option<Piece> {
@@ -183,41 +224,48 @@ fn holder<'a>(root: &'a mut Element, path: &[usize]) -> Option<(&'a mut Vec<Item
     Some((&mut parent.content, *i))
 }
 
-/// Does the edit and marks what it touches. None if the place does not suit.
-fn apply(root: &mut Element, spot: Spot, piece: Piece) -> Option<()> {
-    match (piece, spot) {
+/// Does the edit and marks what it touches. Gives operation and piece of what takes it back; None if the place does not suit.
+fn apply(root: &mut Element, spot: Spot, piece: Piece) -> Option<(u32, Vec<u32>)> {
+    Some(match (piece, spot) {
         (Piece::Insert(item), Spot::Item(path)) => {
             let (content, i) = holder(root, &path)?;
             content.insert(i, item);
+            (REMOVE, Vec::new())
         }
         (Piece::Insert(item), Spot::End(path)) => {
             let element = element_at(root, &path)?;
             element.touched = true;
             element.content.push(item);
+            (REMOVE, Vec::new())
         }
         (Piece::Remove, Spot::Item(path)) => {
             let (content, i) = holder(root, &path)?;
-            content.remove(i);
+            (INSERT, content.remove(i).tokens())
         }
         (Piece::Replace(item), Spot::Item(path)) => match (holder(root, &path), item) {
-            (Some((content, i)), item) => content[i] = item,
-            (None, Item::Element(element)) => *root = element,
+            (Some((content, i)), item) => (REPLACE, std::mem::replace(&mut content[i], item).tokens()),
+            (None, Item::Element(element)) => (REPLACE, std::mem::replace(root, element).tokens()),
             (None, Item::Text(_)) => return None,
         },
         (Piece::Set(attribute), Spot::Item(path)) => {
             let element = element_at(root, &path)?;
             element.touched = true;
-            element.attributes.retain(|old| old.number != attribute.number);
-            let rank = element.attributes.iter().filter(|old| old.number < attribute.number).count();
-            element.attributes.insert(rank, attribute);
+            let number = attribute.number;
+            match element.attributes.iter_mut().find(|old| old.number == number) {
+                Some(old) => (SET, std::mem::replace(old, attribute).tokens()),
+                None => {
+                    let rank = element.attributes.iter().filter(|old| old.number < number).count();
+                    element.attributes.insert(rank, attribute);
+                    (DROP, vec![Token::Attribute(number).code()])
+                }
+            }
         }
         (Piece::Drop(number), Spot::Item(path)) => {
             let element = element_at(root, &path)?;
             element.touched = true;
             let i = element.attributes.iter().position(|old| old.number == number)?;
-            element.attributes.remove(i);
+            (SET, element.attributes.remove(i).tokens())
         }
         _ => return None,
-    }
-    Some(())
+    })
 }

@@ -1,7 +1,7 @@
 //! The edit program: what it prints for its three files.
 
 use super::answer::{BROKEN, DONE, ROOM};
-use super::edits::{self, Edit};
+use super::edits::{self, Edit, LONGEST_BACK};
 use super::{judgement, numbers, schema_file, MOST_TOKENS};
 
 pub const LONGEST_FILE: usize = 65_536;
@@ -57,10 +57,10 @@ fn run(files: &Files, printed: &mut Printed) -> Result<(), (&'static str, u32)> 
     let mut line = 0;
     while !rest.is_empty() {
         let edit = next_edit(&mut rest).map_err(|number| ("program stop edits", number))?;
-        let (answer, after) = edits::edit(Some(&grammar), &buffer, used, &edit);
+        let edits::Edited { answer, doc, .. } = edits::edit(Some(&grammar), &buffer, used, &edit, &[0; LONGEST_BACK]);
         line += 1;
         printed.line(line, answer.number, answer.place, answer.used);
-        buffer = after;
+        buffer = doc;
         used = answer.used;
     }
     Ok(())

@@ -61,7 +61,13 @@ impl Attribute {
         1 + self.values.len()
     }
 
-    pub fn put_tokens(&self, tokens: &mut Vec<u32>) {
+    pub fn tokens(&self) -> Vec<u32> {
+        let mut tokens = Vec::new();
+        self.put_tokens(&mut tokens);
+        tokens
+    }
+
+    fn put_tokens(&self, tokens: &mut Vec<u32>) {
         tokens.push(Token::Attribute(self.number).code());
         tokens.extend(self.values.iter().map(|value| Token::Value(*value).code()));
     }
@@ -154,7 +160,13 @@ impl Item {
         }
     }
 
-    pub fn put_tokens(&self, tokens: &mut Vec<u32>) {
+    pub fn tokens(&self) -> Vec<u32> {
+        let mut tokens = Vec::new();
+        self.put_tokens(&mut tokens);
+        tokens
+    }
+
+    fn put_tokens(&self, tokens: &mut Vec<u32>) {
         match self {
             Item::Element(element) => element.put_tokens(tokens),
             Item::Text(text) => tokens.push(Token::Text(*text).code()),
