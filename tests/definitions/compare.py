@@ -1568,7 +1568,7 @@ class Cases:
         pairs = [(op, number) for op, name in OPERATIONS.items() for number in sorted(REQUIRED['editBy ' + name])]
         ways += [(self.run_back, 1), (lambda: self.check(), 4), (lambda: self.check(r.choice(checks)), 10),
                  (lambda: self.check(r.choice([None, 0, 9]), self.own()), 6),
-                 (lambda: self.edit(), 8), (lambda: self.edit(None, 0), 6),
+                 (lambda: self.edit(), 8), (lambda: self.edit(None, 0), 16),
                  (lambda: self.edit(*r.choice(pairs)), 20),
                  (lambda: self.edit(None, r.choice([None, 0, 9, 8, 11, 12]), self.own()), 8)]
         makers = [way for way, weight in ways for _ in range(weight)]
