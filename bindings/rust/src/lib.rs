@@ -2,7 +2,7 @@
 //!
 //! The numbers of a file, the texts of a DTD, the tokens, the order of faults and the sizes are described in `include/shrikemuff.h`. No call allocates (a
 //! [`Table`] is a box that this binding makes), none keeps state, and a refused call leaves what it was lent as it was. A call takes
-//! less than 133,000 bytes of the stack.
+//! less than 104,000 bytes of the stack.
 //!
 //! ```
 //! use shrikemuff::numbers::TEXT_ONLY;

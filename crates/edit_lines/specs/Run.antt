@@ -50,9 +50,9 @@ module _ (R : Rules) (k : ℕ) (doc : List ℕ) (used : ℕ) where
     told-same r first back (refused n p) = refl
     told-same r first back (done m) = refl
 
-    run-more : {q : Request} {r back : List ℕ} → request (b ∷ s) ≡ ok q r → length back ≡ mostBack → (o : Outcome) → o ≡ outcome doc used back (editBy R doc used q back)
+    run-more : {q : Request} {r : List ℕ} (back : List ℕ) → request (b ∷ s) ≡ ok q r → length back ≡ mostBack → (o : Outcome) → o ≡ outcome doc used back (editBy R doc used q back)
         → editLines (suc m) R k doc used (b ∷ s) ≡ told r o
-    run-more {q} {r} {back} e l o f =
+    run-more {q} {r} back e l o f =
         rw (e, editLines) (told-same r second back (editBy R doc used q second) ∙ ap (λ x. told r (outcome doc used back x)) (same-edit q back l) ∙ ap (told r) (sym f))
 
 -- ---- the loop
@@ -144,7 +144,7 @@ module _ (table doc₀ : List ℕ) (used₀ : ℕ) (file out₀ : List ℕ) (at 
               let m : suc (length file) - (k + 1) ≡ length file - k = omega arith in
               let t : text (editLines (suc (length file) - k) (ofTable table) k doc used (drop from file))
               ≡ lineOf (line k (r .number) (r .place) (r .used)) ++ text (editLines (suc (length file) - (k + 1)) (ofTable table) (k + 1) doc′ (r .used) (drop (e .next) file)) =
-              rw (next, left, m, add-one k, run-more (ofTable table) k doc used (length file - k) (getD file from 0) (drop (suc from) file) f (g .second-places) (outcomeOf r doc′ back′) by-table, text-more) in
+              rw (next, left, m, add-one k, run-more (ofTable table) k doc used (length file - k) (getD file from 0) (drop (suc from) file) back f (g .second-places) (outcomeOf r doc′ back′) by-table, text-more) in
               record {
                 within = n .within;
                 few = omega (arith, g .few, a .on z);

@@ -3,10 +3,10 @@ use Prim.Native.Nat.{ℕ, _+_, _*_}
 
 -- Another major number: a call, a struct or a number that was there is another. Another minor number: something was added.
 abbrev pub major : ℕ
-major = 0
+major = 1
 
 abbrev pub minor : ℕ
-minor = 2
+minor = 0
 
 abbrev pub patch : ℕ
 patch = 0

@@ -1,7 +1,6 @@
 -- `dtd::import_spot` meets its contract. Assumes nothing.
 use mathlib.Core.Path.{refl}
 use Rattle.dtd.specs.Outcomes.{not-taken, told}
-use borrow.Author.Needs.{needs}
 use Rattle.dtd.proofs.import_spot.Statement.{statement}
 use Rattle.dtd.proofs.import_spot.Tie as tie
 

@@ -1,5 +1,5 @@
 -- `dtd::names` meets its contract. Assumes nothing.
-use mathlib.Core.Path.{refl, sym}
+use mathlib.Core.Path.{refl}
 use Rattle.dtd.specs.Outcomes.{not-named, some-names, named}
 use borrow.Author.Needs.{needs}
 use Rattle.dtd.proofs.names.Statement.{statement}
@@ -36,10 +36,10 @@ returns c =
     not-named (a .text .now) (d .last .1 .0) (d .last .1 .1 .0) (d .last .1 .1 .1 .0) (d .last .1 .1 .1 .1 .0) (d .last .1 .1 .1 .1 .1 .0) (d .last .1 .1 .1 .1 .1 .1 .0) (d .result) (d .ensures) (a .names .now) (c .refusal .result) (c .before .if1 .taken) (c .refusal .ensures)
 
 slice-aggregate-put-words : tie.Need-slice-aggregate-put-words
-slice-aggregate-put-words c = sym (c .before .before .before .before .before .before .before .before .before .declared-at .kept .1 .0)
+slice-aggregate-put-words c = search needs
 
 slice-aggregate-put-words-2 : tie.Need-slice-aggregate-put-words-2
-slice-aggregate-put-words-2 c = sym (c .before .before .before .before .before .before .before .before .before .before .declared-at .kept .1 .1 .1 .1 .0)
+slice-aggregate-put-words-2 c = search needs
 
 put-words-requires : tie.Need-put-words-requires
 put-words-requires c κs =

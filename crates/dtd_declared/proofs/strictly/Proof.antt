@@ -4,7 +4,6 @@ use lib.ListN.{take}
 use Rattle.dtd_names.specs.Named.{namesAt, knownBy}
 use mathlib.Core.Bool.{true}
 use Rattle.dtd_declared.specs.Twice.{came}
-use borrow.Author.Needs.{needs}
 use Rattle.dtd_declared.proofs.strictly.Statement.{statement}
 use Rattle.dtd_declared.proofs.strictly.Tie as tie
 

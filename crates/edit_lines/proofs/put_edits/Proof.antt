@@ -54,31 +54,34 @@ slice-aggregate-edit c =
     let e = c .before .before .before .before .before .before .edit-at in
     sym (length-take-le _ _ (omega (arith, e .ensures .few, e .kept .1 .1 .0, c .before .before .before .before .before .before .before .before .before .loop .inv .places)))
 
+slice-aggregate-edit-2 : tie.Need-slice-aggregate-edit-2 Inv-loop μ-loop
+slice-aggregate-edit-2 c = search needs
+
 edit-requires : tie.Need-edit-requires Inv-loop μ-loop
 edit-requires c κs = search needs
 
 put-line-requires : tie.Need-put-line-requires Inv-loop μ-loop
 put-line-requires c κs =
-    let a = c .before .before .before .before .before .before .before .before .before .before .before .before .before .before .before .before .before .before in
-    go-room _ _ _ _ _ _ (c .before .before .before .before .before .before .before .before .before .before .before .before .before .loop .inv) (c .before .before .before .before .before .before .before .before .before .before .before .before .loop-test .taken) (a .pre .1) (a .pre .2)
+    let a = c .before .before .before .before .before .before .before .before .before .before .before .before .before .before .before .before .before .before .before .before in
+    go-room _ _ _ _ _ _ (c .before .before .before .before .before .before .before .before .before .before .before .before .before .before .before .loop .inv) (c .before .before .before .before .before .before .before .before .before .before .before .before .before .before .loop-test .taken) (a .pre .1) (a .pre .2)
 
 add-k : tie.Need-add-k Inv-loop μ-loop
 add-k c =
-    let a = c .before .before .before .before .before .before .before .before .before .before .before .before .before .before .before .before .before .before .before .before .before in
-    omega (arith, go-room _ _ _ _ _ _ (c .before .before .before .before .before .before .before .before .before .before .before .before .before .before .before .before .loop .inv) (c .before .before .before .before .before .before .before .before .before .before .before .before .before .before .before .loop-test .taken) (a .pre .1) (a .pre .2) .0)
+    let a = c .before .before .before .before .before .before .before .before .before .before .before .before .before .before .before .before .before .before .before .before .before .before .before in
+    omega (arith, go-room _ _ _ _ _ _ (c .before .before .before .before .before .before .before .before .before .before .before .before .before .before .before .before .before .before .loop .inv) (c .before .before .before .before .before .before .before .before .before .before .before .before .before .before .before .before .before .loop-test .taken) (a .pre .1) (a .pre .2) .0)
 
 loop-less : tie.Need-loop-less Inv-loop μ-loop
 loop-less c =
-    go-less _ _ _ _ _ _ (c .before .before .before .before .before .before .before .before .before .before .before .before .before .before .before .before .loop .inv) (c .before .before .before .before .before .before .before .before .before .before .before .before .before .before .before .loop-test .taken) (c .before .before .before .before .before .before .before .before .before .before .before .before .before .edit-at .ensures) (search needs)
+    go-less _ _ _ _ _ _ (c .before .before .before .before .before .before .before .before .before .before .before .before .before .before .before .before .before .before .loop .inv) (c .before .before .before .before .before .before .before .before .before .before .before .before .before .before .before .before .before .loop-test .taken) (c .before .before .before .before .before .before .before .before .before .before .before .before .before .before .before .edit-at .ensures) (search needs)
 
 loop-again : tie.Need-loop-again Inv-loop μ-loop
 loop-again c =
-    let a = c .before .before .before .before .before .before .before .before .before .before .before .before .before .before .before .before .before .before .before .before .before in
-    let l = c .before .before .before .before .before .before .before .before .before .before .before .before .before .before .before .before .loop .inv in
-    let e = c .before .before .before .before .before .before .before .before .before .before .before .before .before .edit-at in
-    let d = c .before .before .before .before .before .before .edit in
+    let a = c .before .before .before .before .before .before .before .before .before .before .before .before .before .before .before .before .before .before .before .before .before .before .before in
+    let l = c .before .before .before .before .before .before .before .before .before .before .before .before .before .before .before .before .before .before .loop .inv in
+    let e = c .before .before .before .before .before .before .before .before .before .before .before .before .before .before .before .edit-at in
+    let d = c .before .before .before .before .before .before .before .edit in
     let p = c .before .before .put-line .ensures in
-    go-more _ _ _ _ _ _ l (c .before .before .before .before .before .before .before .before .before .before .before .before .before .before .before .loop-test .taken) (e .ensures) (c .before .before .before .before .before .before .before .before .before .before .if1 .left) (a .pre .0) (d .ensures) (d .kept .1 .0) (d .kept .1 .1 .1 .1 .1 .1 .0) (e .kept .1 .1 .0 ∙ l .places) (p .0) (p .1)
+    go-more _ _ _ _ _ _ l (c .before .before .before .before .before .before .before .before .before .before .before .before .before .before .before .before .before .loop-test .taken) (e .ensures) (c .before .before .before .before .before .before .before .before .before .before .before .before .if1 .left) (a .pre .0) (d .ensures) (d .kept .1 .0) (d .kept .1 .1 .1 .1 .1 .1 .0) (e .kept .1 .1 .0 ∙ l .places) (p .0) (p .1)
 
 same-length-3 : tie.Need-same-length-3 Inv-loop μ-loop
 same-length-3 c = search needs
@@ -105,6 +108,7 @@ put-edits-spec =
     cast-edit
     array-share-prefix-piece
     slice-aggregate-edit
+    slice-aggregate-edit-2
     edit-requires
     put-line-requires
     add-k

@@ -118,8 +118,7 @@ commit-requires c κs =
     let s = c .before .before .before .before .before .before .before .before .before .before .before .before .before .before .before .before .before .before .before .before .before .before .before .before in
     let a = s .args in
     let f = c .before .before .before .before .before .before .before .before .before .before .before .before .before .before .before .before .before .form-of .ensures in
-    let z = c .before .before .before .before .before .before .before .before .before .before .before .before .before .before .if1 .left in
-    (
+    let z = c .before .before .before .before .before .before .before .before .before .before .before .before .before .before .if1 .left in (
       (ready-at (a .operation) (a .place) (a .piece .now) (a .doc .now) (a .used) (s .pre .1) f z, ready-room (a .operation) (a .place) (a .piece .now) (a .doc .now) (a .used) (s .pre .1) f z, ready-long (a .operation) (a .place) (a .piece .now) (a .doc .now) (a .used) (s .pre .1) f z, shaped-long (a .doc .now) (a .used) (s .pre .1), ready-front (a .operation) (a .place) (a .piece .now) (a .doc .now) (a .used) (s .pre .1) f z),
       (shaped-few (a .doc .now) (a .used) (s .pre .1), ready-few (a .operation) (a .place) (a .piece .now) (a .doc .now) (a .used) (s .pre .1) f z),
     )

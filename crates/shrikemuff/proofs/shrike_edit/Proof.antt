@@ -12,12 +12,15 @@ edit-requires c κs = search needs
 same-length : tie.Need-same-length
 same-length c = search needs
 
+same-length-2 : tie.Need-same-length-2
+same-length-2 c = search needs
+
 -- 32 bits hold the change in length
 change-fits : (c : tie.After-edit) → toZ w32 (ofZ w32 (c .edit .result .change)) ≡ c .edit .result .change
 change-fits c = search needs
 
 returns : tie.Need-returns
-returns c = let d = c .before .before .before in rw (change-fits d) (d .edit .ensures)
+returns c = let d = c .before .before .before .before .before in rw (change-fits d) (d .edit .ensures)
 
 pub shrike-edit-spec : {M : Type 1} → statement M
-shrike-edit-spec = tie.close (tie.spec edit-requires same-length returns)
+shrike-edit-spec = tie.close (tie.spec edit-requires same-length same-length-2 returns)
