@@ -40,6 +40,10 @@ mostNames = 64
 abbrev pub mostAttributes : ℕ
 mostAttributes = 64
 
+-- Item 6: "a list of 1 to 256 edits"
+abbrev pub mostEdits : ℕ
+mostEdits = 256
+
 -- Item 12: "The sequence buffer has at least 4,290 places": 65 states of a run of the old content by 66 of one of the new
 abbrev pub sequencePlaces : ℕ
 sequencePlaces = 4290

@@ -27,6 +27,8 @@ pub mod Edits
 pub mod TreeEdits
 -- Item 4: DTD text
 pub mod Dtd
+-- Item 6: a list of edits
+pub mod Lists
 -- Item 12: an element's content compared
 pub mod Inclusion
 -- "Answer numbers": which numbers a call gives, and what each call does
@@ -37,6 +39,7 @@ pub mod Program
 pub mod Open
 pub mod SmallShade
 pub mod Given
--- Items 2 and 12, by computing
+-- Items 2, 6 and 12, by computing
 pub mod BackExamples
+pub mod ListExamples
 pub mod InclusionExamples

@@ -30,10 +30,14 @@ pub const MOST_NAMES: usize = 64;
 
 pub const MOST_ATTRIBUTES: usize = 64;
 
-// The piece of an inverse stands behind its operation, its place and its count; so an inverse has at most MOST_BACK numbers.
+// The piece of an inverse, or of an edit in a list, stands behind its operation, its place and its count; so an inverse has at most MOST_BACK
+// numbers.
 pub const BACK_PIECE: usize = 3;
 
 pub const MOST_BACK: usize = 8195;
+
+// "a list of 1 to 256 edits"
+pub const MOST_EDITS: usize = 256;
 
 // "The sequence buffer has at least 4,290 places."
 pub const SEQUENCE_PLACES: usize = 4290;
