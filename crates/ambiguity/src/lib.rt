@@ -2,11 +2,11 @@
 //
 // A model is ambiguous where the first set or a follow set holds two occurrences of one name. A set is a word, bit k for occurrence k.
 // Assumes nothing.
+use set_walks::one_each;
 use sets::has;
 use sets::is_within;
 use sets::one;
 use sets::when;
-use set_walks::one_each;
 ghost use mathlib.Core.Path.{_≡_};
 ghost use mathlib.Core.Bool.{true};
 ghost use lib.ListN.{length, take};

@@ -1,10 +1,9 @@
 -- The starts and texts of a piece, counted. Assumes nothing.
 use mathlib.Core.Path.{_≡_, refl, ap}
-use mathlib.Core.Bool.{Bool, true, false, cond, _||_}
+use mathlib.Core.Bool.{Bool, _||_}
 use mathlib.Core.List.{List, []}
-use Prim.Native.Nat.{ℕ, suc, _+_, _≤_, _<_}
+use Prim.Native.Nat.{ℕ, _+_, _≤_, _<_}
 use native.Mathlib.Omega.{arith}
-use native.Mathlib.Numerals.{add-one}
 use lib.ListN.{length, take, drop, getD}
 use mir.Val.{boolByte}
 use Rattle.paper.specs.declared.Tok.{Tok}
@@ -12,9 +11,9 @@ use Rattle.paper.specs.declared.Tok.the-variants.{Start, End, Text, Attr, Value
 use Rattle.paper.specs.Tokens.{tokOf, toks, starts}
 use Rattle.paper.specs.Edits.{opens}
 use Rattle.shape_laws.specs.Depth.{count}
-use Rattle.shape_laws.specs.Ends.{rest-next, rest-none}
+use Rattle.shape_laws.specs.Ends.{rest-none}
 use Rattle.tokens.specs.Sorts.{textTok}
-use Rattle.depths.specs.Depths.{one-le}
+use Rattle.depths.specs.Depths.{one-le, count-turn}
 
 -- a start or a text
 either : (t : Tok) → starts t || textTok t ≡ opens t
@@ -24,15 +23,6 @@ either (Text n) = refl
 either (Attr n) = refl
 either (Value n) = refl
 either Bad = refl
-
-opens-turn : (doc : List ℕ) (to i : ℕ) → i < to → to ≤ length doc → {y : Bool} → y ≡ opens (tokOf (getD doc i 0))
-    → count opens (drop i (toks (take to doc))) ≡ boolByte y + count opens (drop (i + 1) (toks (take to doc)))
-opens-turn doc to i h l {y} ey = rw (rest-next doc to i h l, ← ey, add-one) (go y)
-  where
-    go : (b : Bool) → cond b (suc (count opens (drop (suc i) (toks (take to doc))))) (count opens (drop (suc i) (toks (take to doc))))
-        ≡ boolByte b + count opens (drop (suc i) (toks (take to doc)))
-    go true = omega arith
-    go false = omega arith
 
 -- of the starts and texts from place `from` up to place `to`, n stand before place i
 pub record Tallying (doc : List ℕ) (from to i n : ℕ) : Type 0 where
@@ -48,7 +38,7 @@ module _ (doc : List ℕ) (from to : ℕ) where
     pub tallying-turn : i < to → to ≤ length doc → {y z : Bool} → y ≡ starts (tokOf (getD doc i 0)) → z ≡ textTok (tokOf (getD doc i 0))
         → Tallying doc from to (i + 1) (n + boolByte (y || z))
     tallying-turn h l {y} {z} ey ez =
-        let t = opens-turn doc to i h l {y = y || z} (rw (ey, ez) (either (tokOf (getD doc i 0)))) in
+        let t = count-turn opens doc to i h l {y = y || z} (rw (ey, ez) (either (tokOf (getD doc i 0)))) in
         record { here = omega arith; few = omega (arith, c .few, one-le (y || z)); left = omega (arith, c .left, t) }
 
     pub tallying-out : to ≤ i → n ≡ count opens (drop from (toks (take to doc)))

@@ -26,7 +26,7 @@ one-le false = omega arith
 -- ---- what is open at a place, the tokens up to place i counted
 
 module _ (P : Tok → Bool) (buf : List ℕ) (at i : ℕ) (h : i < at) (l : at ≤ length buf) where
-  count-turn : {y : Bool} → y ≡ P (tokOf (getD buf i 0)) → count P (drop i (toks (take at buf))) ≡ boolByte y + count P (drop (i + 1) (toks (take at buf)))
+  pub count-turn : {y : Bool} → y ≡ P (tokOf (getD buf i 0)) → count P (drop i (toks (take at buf))) ≡ boolByte y + count P (drop (i + 1) (toks (take at buf)))
   count-turn {y} ey = rw (rest-next buf at i h l, ← ey, add-one) (go y)
     where
       go : (b : Bool) → cond b (suc (count P (drop (suc i) (toks (take at buf))))) (count P (drop (suc i) (toks (take at buf)))) ≡ boolByte b + count P (drop (suc i) (toks (take at buf)))

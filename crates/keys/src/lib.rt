@@ -6,14 +6,14 @@
 use field::WORDS;
 use field::is_marked;
 use field::note;
-use tokens::is_value;
-use tokens::number;
 use key_walk::Walk;
 use key_walk::is_id;
 use key_walk::is_reference;
 use key_walk::is_value_at;
 use key_walk::next_key;
 use key_walk::pass;
+use tokens::is_value;
+use tokens::number;
 ghost use mathlib.Core.Path.{_≡_};
 ghost use mathlib.Core.Bool.{true};
 ghost use mathlib.Core.List.{[]};
