@@ -255,7 +255,8 @@ fn judged(name: &'static str, schema: &[u32], tokens: &[u32], pair: documents::P
 /// A DTD at the limits of elements and attributes in about 8 KB, and hostile texts of 65,536 bytes.
 fn imports() -> Vec<Case> {
     let import = |(name, text, number, taken): (&'static str, Vec<u8>, u32, bool)| {
-        Case::new(Section::File, name, "import", 0, Input::Import { text, number, taken })
+        let section = if text.len() > texts::ORDINARY { Section::Hostile } else { Section::File };
+        Case::new(section, name, "import", 0, Input::Import { text, number, taken })
     };
     texts::all().into_iter().map(import).collect()
 }

@@ -32,6 +32,7 @@ pub enum Section {
     CheckPart,
     EditPart,
     File,
+    Hostile,
 }
 
 /// What was timed, and the times of each who did it.
@@ -63,6 +64,8 @@ pub const MOST_PLAIN: f64 = 1.5;
 pub const MOST_FIELD: f64 = 1.2;
 /// Most that an edit may cost, in whole checks of the same document.
 pub const MOST_CHECKS: f64 = 1.2;
+/// Most nanoseconds that a hostile text may take.
+pub const MOST_HOSTILE: f64 = 1e9;
 
 /// The calls of the files' table that are checks and edits.
 const JUDGED: [&str; 3] = ["check", "insert", "remove"];
@@ -85,7 +88,7 @@ impl Report<'_> {
         self.rows.iter().filter(|row| match row.section {
             Section::Check => SIZES.contains(&row.tokens) || row.tokens == self.edit_tokens,
             Section::Edit | Section::File => true,
-            Section::CheckPart | Section::EditPart => false,
+            Section::CheckPart | Section::EditPart | Section::Hostile => false,
         })
     }
 
@@ -106,6 +109,7 @@ impl Report<'_> {
         self.checks(&mut text);
         self.edits(&mut text);
         self.files(&mut text);
+        self.hostile(&mut text);
         self.parts(&mut text);
         text
     }
@@ -118,6 +122,8 @@ impl Report<'_> {
         limit(text, &format!("every call within {} × plain, which compares IDs in pairs", MOST_PLAIN), MOST_PLAIN, calls(Who::Plain));
         let judged = calls(Who::Field).filter(|(_, row)| row.section != Section::File || JUDGED.contains(&row.what.as_str()));
         limit(text, &format!("every check and edit within {} × plain with a bit field", MOST_FIELD), MOST_FIELD, judged);
+        let hostile = self.section(Section::Hostile).map(|row| (row.median(Who::Core).map(|ns| ns / MOST_HOSTILE), row));
+        limit(text, "a hostile DTD text within a second (in seconds)", 1.0, hostile);
         text.push('\n');
     }
 
@@ -172,6 +178,21 @@ impl Report<'_> {
                 kept(checks, MOST_CHECKS),
             )
             .unwrap();
+        }
+        text.push('\n');
+    }
+
+    fn hostile(&self, text: &mut String) {
+        text.push_str("## Hostile DTD texts\n\n");
+        text.push_str("Microseconds an import of 65,536 bytes. What goes past the core's tables (brackets over some 30 deep that close, ");
+        text.push_str("ATTLISTs of a 49th name) is found again in the text: no array depends on what a text holds.\n\n");
+        text.push_str(
+            "| text | core | plain | plain, bit field | libxml2 | core/plain | within a second |\n|---|--:|--:|--:|--:|--:|---|\n",
+        );
+        for row in self.section(Section::Hostile) {
+            let seconds = row.median(Who::Core).map(|ns| ns / MOST_HOSTILE);
+            let (times, ratio) = (self.times(row), decimal(row.ratio(Who::Core, Who::Plain), 2));
+            writeln!(text, "| {} | {} | {} | {} |", row.mix, times, ratio, kept(seconds, 1.0)).unwrap();
         }
         text.push('\n');
     }

@@ -2,6 +2,8 @@
 
 use crate::documents::Dice;
 
+/// A text of more bytes is a hostile one.
+pub const ORDINARY: usize = 16_384;
 /// A hostile text has so many bytes.
 const HOSTILE: usize = 65_536;
 const ELEMENTS: [&str; 48] = [
@@ -88,13 +90,13 @@ pub fn all() -> Vec<(&'static str, Vec<u8>, u32, bool)> {
             0,
             true,
         ),
-        ("((((.. to the end, 65,536 bytes", b"<!ELEMENT a ".iter().copied().chain([b'('; HOSTILE - 12]).collect(), 14, false),
-        ("((((a)))), 65,536 bytes", nested(1, HOSTILE / 2 - 16, b"(", b"a", b")"), 0, false),
-        ("(((a),a),a).., 65,536 bytes", nested(4, HOSTILE - 16, b"(", b"a", b"),a"), 2, false),
-        ("(a,(a,(a.., 65,536 bytes", nested(4, HOSTILE - 16, b"(a,", b"a", b")"), 2, false),
-        ("ATTLISTs of different names, 65,536 bytes", lists(|k| format!("<!ATTLIST e{}>", k)), 14, false),
-        ("ATTLISTs of one name, 65,536 bytes", lists(|_| "<!ATTLIST a>".to_string()), 0, true),
-        ("48 other names, then ATTLISTs of one, 65,536 bytes", lists(|k| format!("<!ATTLIST e{}>", k.min(48))), 14, false),
+        ("((((.. to the end", b"<!ELEMENT a ".iter().copied().chain([b'('; HOSTILE - 12]).collect(), 14, false),
+        ("((((a))))", nested(1, HOSTILE / 2 - 16, b"(", b"a", b")"), 0, false),
+        ("(((a),a),a)..", nested(4, HOSTILE - 16, b"(", b"a", b"),a"), 2, false),
+        ("(a,(a,(a..", nested(4, HOSTILE - 16, b"(a,", b"a", b")"), 2, false),
+        ("ATTLISTs of different names", lists(|k| format!("<!ATTLIST e{}>", k)), 14, false),
+        ("ATTLISTs of one name", lists(|_| "<!ATTLIST a>".to_string()), 0, true),
+        ("48 other names, then ATTLISTs of one", lists(|k| format!("<!ATTLIST e{}>", k.min(48))), 14, false),
     ]
 }
 
