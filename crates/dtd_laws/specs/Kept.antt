@@ -12,6 +12,7 @@ use Rattle.paper.specs.Dtd.Letters.{Name, same, among}
 use Rattle.paper.specs.Dtd.Declarations.{Kind, cdata, id, idref, idrefs, Content, Definition, Declaration, element, attlist}
 use Rattle.paper.specs.Dtd.Declarations.{elementNames, definedFor, defined, firstsAfter, attributeNames, isId}
 use Rattle.paper.specs.Dtd.Reading.{newElement, roomForElement, newAttribute, roomForAttribute, idAllowed}
+use Rattle.paper.specs.Dtd.Numbering.{kindNumber}
 use Rattle.paper.specs.Dtd.Limits.{contentKept, modelKept, definitionKept, definitionsKept, declarationKept, kept, oneId, declarationGood}
 use Rattle.basic_laws.specs.Bools.{clash}
 
@@ -136,6 +137,16 @@ few-attributes known ds k =
     known [] ds k (omega arith)
 
 -- ---- IDs
+
+-- kind 1 is the ID's
+pub kind-id : (d : Definition) → eqb (kindNumber (d .kind)) 1 ≡ isId d
+kind-id d = by (d .kind)
+  where
+    by : (k : Kind) → eqb (kindNumber k) 1 ≡ elim k [ cdata ↦ false | id ↦ true | idref ↦ false | idrefs ↦ false ]
+    by cdata = refl
+    by id = refl
+    by idref = refl
+    by idrefs = refl
 
 pub some-append : (l : List Definition) (d : Definition) → some-of isId (l ++ d ∷ []) ≡ (some-of isId l || isId d)
 some-append [] d = by (isId d)

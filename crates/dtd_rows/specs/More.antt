@@ -12,12 +12,12 @@ use lib.ListN.{length}
 use Rattle.paper.specs.Basics.{some-of}
 use Rattle.paper.specs.Sets.{bit, when}
 use Rattle.paper.specs.Dtd.Letters.{Name, same, among}
-use Rattle.paper.specs.Dtd.Declarations.{Kind, cdata, id, idref, idrefs, Definition, isId}
+use Rattle.paper.specs.Dtd.Declarations.{Definition, isId}
 use Rattle.paper.specs.Dtd.Numbering.{numberIn, kindNumber, statusNumber, definitionOf}
 use Rattle.paper.specs.Dtd.Limits.{different}
 use Rattle.basic_laws.specs.Bools.{clash}
 use Rattle.paper_laws.specs.Words.{bit-or, bit-when, bit-one, bit-zero}
-use Rattle.dtd_laws.specs.Kept.{same-true, same-refl, some-append}
+use Rattle.dtd_laws.specs.Kept.{same-true, same-refl, some-append, kind-id}
 use Rattle.dtd_laws.specs.Names.{same-sym}
 use Rattle.dtd_rows.specs.Rows.{withDefinition, called, holds, marked, defines, isRequired, ofKind, Marks, RowOf, undefined}
 use Rattle.dtd_rows.specs.declared.Row.{Row}
@@ -96,15 +96,6 @@ module _ (P : Definition → Bool) (own : List Definition) (d : Definition) wher
         bit-or w (when (P d) (2 ^ k)) i ∙ rw (bit-when (P d) (2 ^ k) i, bit-one k i, t i) (sym (marked-more l o h i))
 
 -- an ID among them, or none
-kind-id : (d : Definition) → eqb (kindNumber (d .kind)) 1 ≡ isId d
-kind-id d = by (d .kind)
-  where
-    by : (k : Kind) → eqb (kindNumber k) 1 ≡ elim k [ cdata ↦ false | id ↦ true | idref ↦ false | idrefs ↦ false ]
-    by cdata = refl
-    by id = refl
-    by idref = refl
-    by idrefs = refl
-
 some-bit : (w k : ℕ) → eqb (bitOr w (2 ^ k)) 0 ≡ false
 some-bit w k = ne-eqb (bitOr w (2 ^ k)) 0 (λ e. clash (set k) (ap (λ v. bit v k) e ∙ bit-zero k))
   where

@@ -20,7 +20,7 @@ use Rattle.paper.specs.Dtd.Numbering.{exprOf, modelFits, numberIn, contentOf, k
 use Rattle.paper.specs.Dtd.Limits.{contentKept, modelKept, kept, different, oneId, declarationGood}
 use Rattle.basic_laws.specs.Bools.{clash}
 use Rattle.dtd_laws.specs.Taken.{isDeclared, Taken}
-use Rattle.dtd_laws.specs.Kept.{few-elements, few-attributes, one-id, good-kept, same-true, same-refl}
+use Rattle.dtd_laws.specs.Kept.{few-elements, few-attributes, one-id, good-kept, same-true, same-refl, kind-id}
 use Rattle.dtd_laws.specs.Names.{firsts-different, number-below}
 use Rattle.dtd_schema_laws.specs.Numbered.{alike, names-each, each-implies}
 
@@ -81,15 +81,6 @@ module _ (own : List Definition) (one : oneId own ≡ true) where
       by : (a : Bool) → (definitionOf n l ≡ some d → hasId n l ≡ isId d) → cond a (some x) (definitionOf n l) ≡ some d → cond a (isId x) (hasId n l) ≡ isId d
       by true h p = let e : x ≡ d = cc in rw e
       by false h p = h p
-
-  kind-id : (d : Definition) → eqb (kindNumber (d .kind)) 1 ≡ isId d
-  kind-id d = by (d .kind)
-    where
-      by : (k : Kind) → eqb (kindNumber k) 1 ≡ elim k [ cdata ↦ false | id ↦ true | idref ↦ false | idrefs ↦ false ]
-      by cdata = refl
-      by id = refl
-      by idref = refl
-      by idrefs = refl
 
   kind-low : (k : Kind) → leb (kindNumber k) 3 ≡ true
   kind-low cdata = refl
