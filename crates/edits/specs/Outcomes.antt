@@ -23,7 +23,7 @@ use Rattle.shape_laws.specs.EditJudged.{Asked, form-iff, allowed-by, coming-tok
 use Rattle.shape_laws.specs.EditLooked.{piece-comes}
 use Rattle.shape_laws.specs.Widths.{Comes}
 use Rattle.edits.specs.declared.Answer.{Answer}
-use Rattle.edits.specs.declared.Finding.{Finding}
+use Rattle.touched.specs.declared.Finding.{Finding}
 use Rattle.form.specs.declared.Form.{Form}
 use Rattle.form.specs.Size.{size-is}
 use Rattle.shape_laws.specs.Shaped.{shaped}
@@ -32,7 +32,7 @@ use Rattle.back_laws.specs.Sizes.{size-form, size-short, size-iff}
 use Rattle.back.specs.Noted.{countBy, Cuts, cuts, count-few, need-is}
 use Rattle.shape_laws.specs.Five.{allowed-within}
 use Rattle.form.specs.Form.{Formed}
-use Rattle.edits.specs.Touched.{Found}
+use Rattle.touched.specs.Touched.{Found}
 use Rattle.edits.specs.Written.{splice-front, splice-piece}
 use Rattle.shape_laws.specs.Bridge.{length-toks, toks-drop}
 

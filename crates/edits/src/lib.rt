@@ -5,31 +5,20 @@
 // Assumes nothing.
 use back::need;
 use back::note;
-use closing::closes;
 use copying::copy_tokens;
-use cost::looked_at;
 use form::form_of;
-use judge::element_fault;
-use judge::first_fault;
-use judge::judged_with;
-use keys::Fault;
-use places::parent_of;
+use touched::judged;
 ghost use mathlib.Core.Path.{_≡_};
 ghost use mathlib.Core.Bool.{true};
-ghost use Prim.Native.Nat.{_+_, _≤_};
-ghost use lib.ListN.{length, take, drop};
+ghost use Prim.Native.Nat.{_≤_};
+ghost use lib.ListN.{length, take};
 ghost use lib.IntN.{pos, _-ℤ_};
 ghost use Rattle.paper.specs.Basics.{mostTokens};
-ghost use Rattle.paper.specs.Tokens.{toks};
 ghost use Rattle.paper.specs.Shape.{shapeOf};
 ghost use Rattle.paper.specs.Table.{proper};
 ghost use Rattle.paper.specs.Rules.{ofTable};
 ghost use Rattle.paper.specs.Edits.{editing, written, outcome, edit};
-ghost use Rattle.shape_laws.specs.Touch.{parentOf};
-ghost use Rattle.shape_laws.specs.Widths.{Comes};
-ghost use Rattle.children.specs.Closed.{Closed};
 ghost use Rattle.edits.specs.Written.{cleared};
-ghost use Rattle.edits.specs.Touched.{touchedFirst, Found};
 ghost use Rattle.edits.specs.Outcomes.{outcomeOf, refusal, doneWith};
 
 // Writes 0 from a place up to another.
@@ -60,65 +49,6 @@ fn write(doc: &mut [u32], used: usize, new: &[u32], at: usize, end: usize)
 {
     copy_tokens(doc, at, new, at, end - at);
     clear(doc, end, used);
-}
-
-// "7, 8 and 9 only at touched elements": the parent, then the elements of the piece, which begins at a place.
-fn touched_fault(
-    table: &[u64],
-    doc: &[u32],
-    used: usize,
-    closes: &[u32],
-    at: usize,
-    coming: usize,
-    parent: usize,
-) -> Fault
-    requires { ⌜ proper (now table) ≡ true ⌝ }
-    requires { ⌜ Closed (now doc) used (now closes) ⌝ }
-    requires { ⌜ (used ≤ length (now doc)) × (used ≤ mostTokens) × (at + coming ≤ used) ⌝ }
-    requires { ⌜ parent ≡ parentOf (toks (take at (now doc))) ⌝ }
-    ensures { λ r. ⌜ (r .number, r .place) ≡ touchedFirst (now (table .entry)) (now (doc .entry)) used at coming ⌝ }
-{
-    if at <= parent {
-        return first_fault(table, doc, used, closes, at, at + coming);
-    }
-    let over = element_fault(table, doc, used, closes, parent);
-    if over.number != paper::DONE {
-        return over;
-    }
-    first_fault(table, doc, used, closes, at, at + coming)
-}
-
-// What the judgement of an edited document gives: its first fault; where there is none, the number of children looked at.
-struct Finding {
-    number: u32,
-    place: u32,
-    children: u32,
-}
-
-// "Then the edited document is judged as above": its first `used` tokens, at what is touched. The piece is `coming` tokens at a place.
-pub fn judged(table: &[u64], doc: &[u32], used: usize, at: usize, coming: usize) -> Finding
-    requires { ⌜ proper (now table) ≡ true ⌝ }
-    requires { ⌜ (used ≤ length (now doc)) × (used ≤ mostTokens) × (at + coming ≤ used) ⌝ }
-    requires { ⌜ Comes (drop at (toks (take (at + coming) (now doc)))) ⌝ }
-    ensures { λ r. ⌜ Found (now (table .entry)) (now (doc .entry)) used at coming r ⌝ }
-{
-    let mut ends = [0u32; paper::MOST_TOKENS];
-    closes(doc, used, &mut ends);
-    let parent = parent_of(doc, at);
-    let elements = touched_fault(table, doc, used, &ends, at, coming, parent);
-    let fault = judged_with(table, doc, used, elements);
-    if fault.number != paper::DONE {
-        return Finding {
-            number: fault.number,
-            place: fault.place,
-            children: 0,
-        };
-    }
-    Finding {
-        number: fault.number,
-        place: fault.place,
-        children: looked_at(doc, used, &ends, at, coming, parent),
-    }
 }
 
 // "The answer has number, place, used length, and the change in length, a signed count that is negative when tokens went." Item 10: "A done

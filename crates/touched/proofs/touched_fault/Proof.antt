@@ -1,8 +1,8 @@
--- `edits::touched_fault` meets its contract. Assumes nothing.
-use Rattle.edits.specs.Touched.{touched-alone, touched-parent, touched-piece}
+-- `touched::touched_fault` meets its contract. Assumes nothing.
+use Rattle.touched.specs.Touched.{touched-alone, touched-parent, touched-piece}
 use borrow.Author.Needs.{needs}
-use Rattle.edits.proofs.touched_fault.Statement.{statement}
-use Rattle.edits.proofs.touched_fault.Tie as tie
+use Rattle.touched.proofs.touched_fault.Statement.{statement}
+use Rattle.touched.proofs.touched_fault.Tie as tie
 
 add-first-fault : tie.Need-add-first-fault
 add-first-fault c = search needs

@@ -13,7 +13,7 @@ use Rattle.paper.specs.Judgement.{Answer, first, placeOf, elementFault, judge, 
 use Rattle.paper.specs.Edits.{childrenOf}
 use Rattle.shape_laws.specs.Bridge.{toks-take, length-toks}
 use Rattle.shape_laws.specs.Touch.{inside, touched-is, parentOf}
-use Rattle.edits.specs.declared.Finding.{Finding}
+use Rattle.touched.specs.declared.Finding.{Finding}
 use Rattle.keys.specs.declared.Fault.{Fault}
 use Rattle.judge.specs.Elements.{numberAt, faultOf, found-first, found-none, firstIn, first-same}
 use Rattle.judge.specs.Check.{judgedWith, judged-is}

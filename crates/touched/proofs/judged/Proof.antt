@@ -1,9 +1,9 @@
--- `edits::judged` meets its contract. Assumes nothing.
+-- `touched::judged` meets its contract. Assumes nothing.
 use Rattle.children.specs.Closed.{closed}
-use Rattle.edits.specs.Touched.{found-fault, found-done}
+use Rattle.touched.specs.Touched.{found-fault, found-done}
 use borrow.Author.Needs.{needs}
-use Rattle.edits.proofs.judged.Statement.{statement}
-use Rattle.edits.proofs.judged.Tie as tie
+use Rattle.touched.proofs.judged.Statement.{statement}
+use Rattle.touched.proofs.judged.Tie as tie
 
 slice-aggregate-closes : tie.Need-slice-aggregate-closes
 slice-aggregate-closes c = search needs

@@ -1,0 +1,3 @@
+-- The judgement of an edited document at what is touched.
+-- The parent, and the piece
+pub mod Touched

@@ -1,0 +1,80 @@
+// The judgement of an edited document, at what the edit touches: the parent of the place, and the elements of the piece.
+//
+// The table is a proper one, and nothing is written. Assumes nothing.
+use closing::closes;
+use cost::looked_at;
+use judge::element_fault;
+use judge::first_fault;
+use judge::judged_with;
+use keys::Fault;
+use places::parent_of;
+ghost use mathlib.Core.Path.{_≡_};
+ghost use mathlib.Core.Bool.{true};
+ghost use Prim.Native.Nat.{_+_, _≤_};
+ghost use lib.ListN.{length, take, drop};
+ghost use Rattle.paper.specs.Basics.{mostTokens};
+ghost use Rattle.paper.specs.Tokens.{toks};
+ghost use Rattle.paper.specs.Table.{proper};
+ghost use Rattle.shape_laws.specs.Touch.{parentOf};
+ghost use Rattle.shape_laws.specs.Widths.{Comes};
+ghost use Rattle.children.specs.Closed.{Closed};
+ghost use Rattle.touched.specs.Touched.{touchedFirst, Found};
+
+// "7, 8 and 9 only at touched elements": the parent, then the elements of the piece, which begins at a place.
+fn touched_fault(
+    table: &[u64],
+    doc: &[u32],
+    used: usize,
+    closes: &[u32],
+    at: usize,
+    coming: usize,
+    parent: usize,
+) -> Fault
+    requires { ⌜ proper (now table) ≡ true ⌝ }
+    requires { ⌜ Closed (now doc) used (now closes) ⌝ }
+    requires { ⌜ (used ≤ length (now doc)) × (used ≤ mostTokens) × (at + coming ≤ used) ⌝ }
+    requires { ⌜ parent ≡ parentOf (toks (take at (now doc))) ⌝ }
+    ensures { λ r. ⌜ (r .number, r .place) ≡ touchedFirst (now (table .entry)) (now (doc .entry)) used at coming ⌝ }
+{
+    if at <= parent {
+        return first_fault(table, doc, used, closes, at, at + coming);
+    }
+    let over = element_fault(table, doc, used, closes, parent);
+    if over.number != paper::DONE {
+        return over;
+    }
+    first_fault(table, doc, used, closes, at, at + coming)
+}
+
+// What the judgement of an edited document gives: its first fault; where there is none, the number of children looked at.
+pub struct Finding {
+    pub number: u32,
+    pub place: u32,
+    pub children: u32,
+}
+
+// "Then the edited document is judged as above": its first `used` tokens, at what is touched. The piece is `coming` tokens at a place.
+pub fn judged(table: &[u64], doc: &[u32], used: usize, at: usize, coming: usize) -> Finding
+    requires { ⌜ proper (now table) ≡ true ⌝ }
+    requires { ⌜ (used ≤ length (now doc)) × (used ≤ mostTokens) × (at + coming ≤ used) ⌝ }
+    requires { ⌜ Comes (drop at (toks (take (at + coming) (now doc)))) ⌝ }
+    ensures { λ r. ⌜ Found (now (table .entry)) (now (doc .entry)) used at coming r ⌝ }
+{
+    let mut ends = [0u32; paper::MOST_TOKENS];
+    closes(doc, used, &mut ends);
+    let parent = parent_of(doc, at);
+    let elements = touched_fault(table, doc, used, &ends, at, coming, parent);
+    let fault = judged_with(table, doc, used, elements);
+    if fault.number != paper::DONE {
+        return Finding {
+            number: fault.number,
+            place: fault.place,
+            children: 0,
+        };
+    }
+    Finding {
+        number: fault.number,
+        place: fault.place,
+        children: looked_at(doc, used, &ends, at, coming, parent),
+    }
+}
