@@ -33,7 +33,7 @@ use Rattle.back.specs.Noted.{countBy, Cuts, cuts, count-few, need-is}
 use Rattle.shape_laws.specs.Five.{allowed-within}
 use Rattle.form.specs.Form.{Formed}
 use Rattle.touched.specs.Touched.{Found}
-use Rattle.edits.specs.Written.{splice-front, splice-piece}
+use Rattle.written.specs.Written.{splice-front, splice-piece}
 use Rattle.shape_laws.specs.Bridge.{length-toks, toks-drop}
 
 -- with both buffers

@@ -5,51 +5,20 @@
 // Assumes nothing.
 use back::need;
 use back::note;
-use copying::copy_tokens;
 use form::form_of;
 use touched::judged;
+use written::change_of;
+use written::write;
 ghost use mathlib.Core.Path.{_≡_};
 ghost use mathlib.Core.Bool.{true};
 ghost use Prim.Native.Nat.{_≤_};
 ghost use lib.ListN.{length, take};
-ghost use lib.IntN.{pos, _-ℤ_};
 ghost use Rattle.paper.specs.Basics.{mostTokens};
 ghost use Rattle.paper.specs.Shape.{shapeOf};
 ghost use Rattle.paper.specs.Table.{proper};
 ghost use Rattle.paper.specs.Rules.{ofTable};
 ghost use Rattle.paper.specs.Edits.{editing, written, outcome, edit};
-ghost use Rattle.edits.specs.Written.{cleared};
 ghost use Rattle.edits.specs.Outcomes.{outcomeOf, refusal, doneWith};
-
-// Writes 0 from a place up to another.
-fn clear(doc: &mut [u32], from: usize, to: usize)
-    requires { ⌜ to ≤ length (now doc) ⌝ }
-    ensures { λ _. ⌜ now (doc .exit) ≡ cleared (now (doc .entry)) from to ⌝ }
-{
-    let mut p = from;
-    while p < to {
-        doc[p] = 0;
-        p += 1;
-    }
-}
-
-// The difference of two lengths, negative when tokens went.
-fn change_of(old: usize, new: usize) -> i32
-    requires { ⌜ (old ≤ mostTokens) × (new ≤ mostTokens) ⌝ }
-    ensures { λ r. ⌜ r ≡ pos new -ℤ pos old ⌝ }
-{
-    (new as i32) - (old as i32)
-}
-
-// "Done: places from the new length to the old hold 0, later ones are untouched": writes the tokens of new up to `end`. Those before `at`
-// stand in the document already.
-fn write(doc: &mut [u32], used: usize, new: &[u32], at: usize, end: usize)
-    requires { ⌜ (at ≤ end) × (end ≤ length (now doc)) × (end ≤ length (now new)) × (used ≤ length (now doc)) × (take at (take end (now new)) ≡ take at (now doc)) ⌝ }
-    ensures { λ _. ⌜ now (doc .exit) ≡ written (now (doc .entry)) used (take end (now (new .entry))) ⌝ }
-{
-    copy_tokens(doc, at, new, at, end - at);
-    clear(doc, end, used);
-}
 
 // "The answer has number, place, used length, and the change in length, a signed count that is negative when tokens went." Item 10: "A done
 // edit reports the number of children looked at".

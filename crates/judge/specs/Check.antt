@@ -81,6 +81,11 @@ pub judged-is : (table doc : List ℕ) (used : ℕ) (judged : ℕ → Bool)
 unfolding judge
 judged-is table doc used judged = refl
 
+-- every element, then the rest
+pub whole-judged : (table doc : List ℕ) (used : ℕ) → used ≤ length doc → {f : Fault} {a : Answer} → (f .number, f .place) ≡ firstIn table doc used 0 used
+    → a ≡ judgedWith table doc used (f .number, f .place) → a ≡ judge (ofTable table) whole (toks (take used doc))
+whole-judged table doc used h ef ea = ea ∙ ap (judgedWith table doc used) (ef ∙ first-whole table doc used h) ∙ judged-is table doc used whole
+
 -- ---- the check
 
 -- a document with shape is no longer than it may be
@@ -111,9 +116,6 @@ module _ (table doc : List ℕ) (used : ℕ) {y : Bool} (ey : y ≡ proper table
     unfolding check checking
     check-shape g = rw (← ey, not-false y h, ← ez, not-true z g)
 
-    pub check-judged : not z ≡ false → {f : Fault} {a : Answer} → (f .number, f .place) ≡ firstIn table doc used 0 used
-        → a ≡ judgedWith table doc used (f .number, f .place) → a ≡ check table doc used
+    pub check-judged : not z ≡ false → {a : Answer} → a ≡ judge (ofTable table) whole (toks (take used doc)) → a ≡ check table doc used
     unfolding check checking
-    check-judged g ef ea =
-        rw (← ey, not-false y h, ← ez, not-false z g)
-        (ea ∙ ap (judgedWith table doc used) (ef ∙ first-whole table doc used (shape-fits doc used ez g .long)) ∙ judged-is table doc used whole)
+    check-judged g ea = rw (← ey, not-false y h, ← ez, not-false z g) ea

@@ -17,7 +17,7 @@ ghost use Rattle.paper.specs.Basics.{mostTokens};
 ghost use Rattle.paper.specs.Tokens.{toks};
 ghost use Rattle.paper.specs.Table.{proper};
 ghost use Rattle.paper.specs.Rules.{ofTable};
-ghost use Rattle.paper.specs.Judgement.{rootFault, check};
+ghost use Rattle.paper.specs.Judgement.{rootFault, judge, whole, check};
 ghost use Rattle.children.specs.Closed.{Closed};
 ghost use Rattle.judge.specs.Elements.{faultFrom, faultOf, firstIn};
 ghost use Rattle.judge.specs.Check.{judgedWith};
@@ -156,6 +156,17 @@ pub fn judged_with(table: &[u64], doc: &[u32], used: usize, elements: Fault) -> 
     key_fault(table, doc, used)
 }
 
+// The judgement of a whole document with shape: the root, every element, IDs and references.
+pub fn judged_whole(table: &[u64], doc: &[u32], used: usize) -> Fault
+    requires { ⌜ (proper (now table) ≡ true) × (used ≤ length (now doc)) × (used ≤ mostTokens) ⌝ }
+    ensures { λ r. ⌜ (r .number, r .place) ≡ judge (ofTable (now (table .entry))) whole (toks (take used (now (doc .entry)))) ⌝ }
+{
+    let mut closes = [0u32; paper::MOST_TOKENS];
+    closing::closes(doc, used, &mut closes);
+    let elements = first_fault(table, doc, used, &closes, 0, used);
+    judged_with(table, doc, used, elements)
+}
+
 // The check of a document; 0 and 0: it is valid. "Order: table proper (13); shape (4); the root's name (10, place 0); then elements by rising start place
 // [..] (7, 8, 9) [..] Then an ID value met earlier as an ID (11 [..]); then a reference value that is no ID in the document (12 [..])."
 pub fn check(table: &[u64], doc: &[u32], used: usize) -> Fault
@@ -173,8 +184,5 @@ pub fn check(table: &[u64], doc: &[u32], used: usize) -> Fault
             place: 0,
         };
     }
-    let mut closes = [0u32; paper::MOST_TOKENS];
-    closing::closes(doc, used, &mut closes);
-    let elements = first_fault(table, doc, used, &closes, 0, used);
-    judged_with(table, doc, used, elements)
+    judged_whole(table, doc, used)
 }

@@ -19,7 +19,7 @@ use Rattle.promises.specs.Calls.{papers}
 use Rattle.promises.specs.Right.{InForm}
 use Rattle.promises.specs.Statements.{EditIsTreeEdit}
 use Rattle.answer_laws.specs.ShapeParts.{shape-element}
-use Rattle.promises.specs.Written.{written-take}
+use Rattle.shape_laws.specs.Written.{written-take}
 use Rattle.promises.specs.Always.{edit-leaves}
 
 -- what was done had shape, was in form, and had room for its inverse

@@ -26,7 +26,8 @@ use Rattle.back_laws.specs.Sizes.{size-form, size-short, size-iff}
 use Rattle.promises.specs.Calls.{Calls, papers}
 use Rattle.promises.specs.Right.{Right, Step}
 use Rattle.promises.specs.Statements.{Runs}
-use Rattle.promises.specs.Written.{written-take, written-back, written-length, held-long, held-length, valid-alone}
+use Rattle.shape_laws.specs.Written.{written-take, written-length}
+use Rattle.promises.specs.Written.{written-back, held-long, held-length, valid-alone}
 use Rattle.promises.specs.Always.{edit-leaves}
 use Rattle.promises.specs.OnTree.{done-form}
 use Rattle.promises.specs.Undo.{leaves, AllDone, EndsAt, Roomy, askedIn, inversesIn, NeedsMost, EditSecond, BackReads}

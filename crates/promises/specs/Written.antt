@@ -1,23 +1,20 @@
--- A document in its buffer: what a done edit writes is read again, has shape and is valid as it was alone. Assumes nothing.
+-- A document in its buffer: what a done edit writes is valid as it was alone, and what is written over it again. Assumes nothing.
 use mathlib.Core.Path.{_≡_, refl}
 use mathlib.Core.Bool.{true}
 use mathlib.Core.List.{List, _++_}
 use Prim.Native.Nat.{ℕ, _+_, _-_, _≤_, max}
 use native.Mathlib.Omega.{arith}
 use borrow.Author.Tests.{le-leb}
-use lib.ListN.{length, take, drop, replicate, length-append, length-drop, length-replicate}
-use lib.Seq.{take-length, take-at, drop-at, drop-append-add, length-take-le}
+use lib.ListN.{length, take, drop, replicate, length-replicate}
+use lib.Seq.{take-length, drop-at, drop-append-add, length-take-le}
 use Rattle.paper.specs.Schema.{Schema}
 use Rattle.paper.specs.Shape.{shapeOf}
 use Rattle.paper.specs.Validity.{ValidDocument}
 use Rattle.paper.specs.Edits.{written}
 use Rattle.shape_laws.specs.Shaped.{shaped}
+use Rattle.shape_laws.specs.Written.{written-take, written-shape}
 
 module _ (buffer : List ℕ) (used : ℕ) (new : List ℕ) where
-  -- the tokens in use after it are the new document's
-  pub written-take : take (length new) (written buffer used new) ≡ new
-  written-take = take-at new (replicate (used - length new) 0 ++ drop (max used (length new)) buffer) (length new) refl
-
   -- the old document written over the new one: 0 where the new one was longer, and behind both what stood there
   pub written-back : (old : List ℕ) → length old ≡ used
       → written (written buffer used new) (length new) old ≡ old ++ (replicate (length new - used) 0 ++ drop (max used (length new)) buffer)
@@ -28,25 +25,8 @@ module _ (buffer : List ℕ) (used : ℕ) (new : List ℕ) where
       rw (k, drop-append-add new (z ++ t) (length z), drop-at z t (length z) refl, e)
 
   module _ (h : used ≤ length buffer) (k : length new ≤ length buffer) where
-    -- the buffer is as long as it was
-    pub written-length : length (written buffer used new) ≡ length buffer
-    written-length =
-        omega (
-          arith,
-          length-append new (replicate (used - length new) 0 ++ drop (max used (length new)) buffer),
-          length-append (replicate (used - length new) 0) (drop (max used (length new)) buffer),
-          length-replicate {A = ℕ} (used - length new) 0,
-          length-drop (max used (length new)) buffer,
-        )
-
-    written-shape : shapeOf new (length new) ≡ true → shapeOf (written buffer used new) (length new) ≡ true
-    unfolding shapeOf
-    written-shape e =
-        rw (written-take, le-leb (length new) (length (written buffer used new)) (omega (arith, written-length)))
-        (rw (take-length new, le-leb (length new) (length new) (omega arith)) at e)
-
     pub written-valid : (s : Schema) → ValidDocument s new (length new) → ValidDocument s (written buffer used new) (length new)
-    written-valid s v = record { shape = written-shape (v .shape); valid = rw written-take (rw (take-length new) at (v .valid)) }
+    written-valid s v = record { shape = written-shape buffer used new h k (v .shape); valid = rw (written-take buffer used new) (rw (take-length new) at (v .valid)) }
 
 -- a document in its buffer is one alone
 module _ (s : Schema) (buffer : List ℕ) (used : ℕ) (v : ValidDocument s buffer used) where

@@ -18,5 +18,6 @@ pub mod EditJudged
 pub mod Looked
 pub mod Widths
 pub mod EditLooked
--- A document with shape in its buffer
+-- A document with shape in its buffer; what a done edit writes there
 pub mod Shaped
+pub mod Written

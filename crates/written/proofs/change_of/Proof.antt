@@ -1,4 +1,4 @@
--- `edits::change_of` meets its contract. Assumes nothing.
+-- `written::change_of` meets its contract. Assumes nothing.
 use mathlib.Core.Path.{_≡_, sym, ap₂, subst, _∙_}
 use mathlib.Core.Bool.{Bool, true, false, cond}
 use Prim.Native.Nat.{ℕ, zero, suc, _+_, _-_, _≤_}
@@ -12,8 +12,8 @@ use mir.Val.{SFits, toZ}
 use mir.Facts.{toZ-pos, toZ-ofZ}
 use borrow.Author.Needs.{needs}
 use Rattle.paper.specs.Basics.{mostTokens}
-use Rattle.edits.proofs.change_of.Statement.{statement}
-use Rattle.edits.proofs.change_of.Tie as tie
+use Rattle.written.proofs.change_of.Statement.{statement}
+use Rattle.written.proofs.change_of.Tie as tie
 
 cond-mag : (t : Bool) (x y : ℕ) → mag (cond t (negsuc x) (pos y)) ≤ x + y
 cond-mag true x y = omega arith

@@ -1,8 +1,8 @@
--- `edits::write` meets its contract. Assumes nothing.
-use Rattle.edits.specs.Written.{put-written}
+-- `written::write` meets its contract. Assumes nothing.
+use Rattle.written.specs.Written.{put-written}
 use borrow.Author.Needs.{needs}
-use Rattle.edits.proofs.write.Statement.{statement}
-use Rattle.edits.proofs.write.Tie as tie
+use Rattle.written.proofs.write.Statement.{statement}
+use Rattle.written.proofs.write.Tie as tie
 
 sub-copy-tokens : tie.Need-sub-copy-tokens
 sub-copy-tokens c = search needs

@@ -1,9 +1,9 @@
--- `edits::clear` meets its contract. Assumes nothing.
+-- `written::clear` meets its contract. Assumes nothing.
 use borrow.Author.Needs.{needs}
-use Rattle.edits.specs.Written.{Clearing, clearing-begin, clearing-turn, clearing-out}
+use Rattle.written.specs.Written.{Clearing, clearing-begin, clearing-turn, clearing-out}
 use Prim.Native.Nat.{_-_}
-use Rattle.edits.proofs.clear.Statement.{statement}
-use Rattle.edits.proofs.clear.Tie as tie
+use Rattle.written.proofs.clear.Statement.{statement}
+use Rattle.written.proofs.clear.Tie as tie
 
 abbrev Inv-loop : tie.InvT-loop
 Inv-loop doc₀ from to p₀ doc p = Clearing doc₀ from to doc p

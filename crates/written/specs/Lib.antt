@@ -1,0 +1,2 @@
+-- What a done edit writes
+pub mod Written
