@@ -31,7 +31,7 @@ pub struct Answer {
 }
 
 // "Refusals [..] give the old length and change 0." Item 10: "Refused edits report 0."
-fn refused(number: u32, place: u32, used: usize) -> Answer
+pub fn refused(number: u32, place: u32, used: usize) -> Answer
     ensures { λ r. ⌜ r ≡ refusal number place used ⌝ }
 {
     Answer {

@@ -29,6 +29,10 @@ checkAnswers = 0 ∷ 4 ∷ 8 ∷ 9 ∷ 10 ∷ 11 ∷ 12 ∷ 13 ∷ []
 abbrev pub editAnswers : List ℕ
 editAnswers = 0 ∷ 4 ∷ 5 ∷ 6 ∷ 7 ∷ 8 ∷ 9 ∷ 10 ∷ 11 ∷ 12 ∷ 13 ∷ []
 
+-- Item 6: those of its last edit; "a list that is empty or ends inside an edit is 4, a 257th edit begun is 5"
+abbrev pub listAnswers : List ℕ
+listAnswers = editAnswers
+
 -- Item 12: "Refusals in order: 13, old table first; element not below both E is 6; new 16, [..]; buffer too short is 5."
 abbrev pub compareAnswers : List ℕ
 compareAnswers = 0 ∷ 5 ∷ 6 ∷ 13 ∷ 16 ∷ []

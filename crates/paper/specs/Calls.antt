@@ -1,4 +1,4 @@
--- The nine calls, each by the outcome that it has for what it is given: an outcome is the answer and every place of lent memory
+-- The ten calls, each by the outcome that it has for what it is given: an outcome is the answer and every place of lent memory
 -- after the call. The contracts of the calls are written with these names. Assumes nothing.
 use mathlib.Core.Path.{_≡_}
 use mathlib.Core.List.{List}
@@ -7,6 +7,7 @@ use Rattle.paper.specs.Files.{Counted, read, write}
 use Rattle.paper.specs.Table.{translate}
 use Rattle.paper.specs.Judgement.{Answer, check}
 use Rattle.paper.specs.Edits.{Request, Outcome, edit}
+use Rattle.paper.specs.Lists.{Listed, editList}
 use Rattle.paper.specs.Inclusion.{Compared, compare}
 use Rattle.paper.specs.Dtd.Imported.{Spot, import, names, spot}
 
@@ -29,6 +30,10 @@ Checks table buffer used o = o ≡ check table buffer used
 -- the edit: number, place, used length, change in length, children looked at, the buffer and the second one
 abbrev pub Performs : (table buffer : List ℕ) → (used : ℕ) → Request → (second : List ℕ) → Outcome → Type 0
 Performs table buffer used q second o = o ≡ edit table buffer used q second
+
+-- the list of edits: what the last edit that was run came to, with no second buffer, and how many were done
+abbrev pub PerformsList : (table buffer : List ℕ) → (used : ℕ) → (list : List ℕ) → Listed Outcome → Type 0
+PerformsList table buffer used list o = o ≡ editList table buffer used list
 
 -- the comparison: number, 1 for yes, length of the sequence that is lost, and the sequence buffer
 abbrev pub Compares : (old new : List ℕ) → (element : ℕ) → (buffer : List ℕ) → Compared → Type 0

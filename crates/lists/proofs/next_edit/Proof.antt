@@ -1,0 +1,95 @@
+-- `lists::next_edit` meets its contract. Assumes nothing.
+use native.Mathlib.Omega.{arith}
+use Rattle.form.specs.Form.{shaped-few, shaped-long}
+use Rattle.edits.specs.Outcomes.{ready-few, ready-room, ready-long, ready-within, ready-at, ready-front, ready-comes}
+use Rattle.lists.specs.Single.{next-form, next-fault, next-done}
+use borrow.Author.Needs.{needs}
+use Rattle.lists.proofs.next_edit.Statement.{statement}
+use Rattle.lists.proofs.next_edit.Tie as tie
+
+form-of-requires : tie.Need-form-of-requires
+form-of-requires c κs = search needs
+
+refused-requires : tie.Need-refused-requires
+refused-requires c κs = search needs
+
+same-length : tie.Need-same-length
+same-length c = search needs
+
+same-length-2 : tie.Need-same-length-2
+same-length-2 c = search needs
+
+returns : tie.Need-returns
+returns c =
+    let s = c .before .before .before .before .before .before .before .before .before .before .before .before in
+    let a = s .args in
+    let f = c .before .before .before .before .before .form-of .ensures in
+    next-form (a .operation) (a .place) (a .piece .now) (a .table .now) (a .doc .now) (a .used) (s .pre .0) (s .pre .1) f (λ z. absurd (omega (arith, c .before .if1 .taken))) (c .refused .ensures)
+
+judged-requires : tie.Need-judged-requires
+judged-requires c κs =
+    let s = c .before .before .before .before .before .before .before .before .before .before .before .before in
+    let a = s .args in
+    let f = c .before .before .before .before .before .form-of .ensures in
+    let z = c .before .if1 .left in
+    (s .pre .0, ((ready-long (a .operation) (a .place) (a .piece .now) (a .doc .now) (a .used) (s .pre .1) f z, ready-few (a .operation) (a .place) (a .piece .now) (a .doc .now) (a .used) (s .pre .1) f z, ready-within (a .operation) (a .place) (a .piece .now) (a .doc .now) (a .used) (s .pre .1) f z), ready-comes (a .operation) (a .place) (a .piece .now) (a .doc .now) (a .used) (s .pre .1) f z))
+
+refused-requires-2 : tie.Need-refused-requires-2
+refused-requires-2 c κs = search needs
+
+same-length-3 : tie.Need-same-length-3
+same-length-3 c = search needs
+
+same-length-4 : tie.Need-same-length-4
+same-length-4 c = search needs
+
+returns-2 : tie.Need-returns-2
+returns-2 c =
+    let s = c .before .before .before .before .before .before .before .before .before .before .before .before .before .before .before .before in
+    let a = s .args in
+    let f = c .before .before .before .before .before .before .before .before .before .form-of .ensures in
+    let z = c .before .before .before .before .before .if1 .left in
+    next-fault (a .operation) (a .place) (a .piece .now) (a .table .now) (a .doc .now) (a .used) (s .pre .0) (s .pre .1) f z (c .before .before .before .judged .ensures) (λ y. absurd (omega (arith, c .before .if2 .taken))) (c .refused2 .ensures)
+
+commit-requires : tie.Need-commit-requires
+commit-requires c κs =
+    let s = c .before .before .before .before .before .before .before .before .before .before .before .before .before .before .before .before .before in
+    let a = s .args in
+    let f = c .before .before .before .before .before .before .before .before .before .before .form-of .ensures in
+    let z = c .before .before .before .before .before .before .if1 .left in (
+      (ready-at (a .operation) (a .place) (a .piece .now) (a .doc .now) (a .used) (s .pre .1) f z, ready-room (a .operation) (a .place) (a .piece .now) (a .doc .now) (a .used) (s .pre .1) f z, ready-long (a .operation) (a .place) (a .piece .now) (a .doc .now) (a .used) (s .pre .1) f z, shaped-long (a .doc .now) (a .used) (s .pre .1), ready-front (a .operation) (a .place) (a .piece .now) (a .doc .now) (a .used) (s .pre .1) f z),
+      (shaped-few (a .doc .now) (a .used) (s .pre .1), ready-few (a .operation) (a .place) (a .piece .now) (a .doc .now) (a .used) (s .pre .1) f z),
+    )
+
+same-length-5 : tie.Need-same-length-5
+same-length-5 c = search needs
+
+same-length-6 : tie.Need-same-length-6
+same-length-6 c = search needs
+
+returns-3 : tie.Need-returns-3
+returns-3 c =
+    let s = c .before .before .before .before .before .before .before .before .before .before .before .before .before .before .before .before .before .before .before .before in
+    let a = s .args in
+    let f = c .before .before .before .before .before .before .before .before .before .before .before .before .before .form-of .ensures in
+    let z = c .before .before .before .before .before .before .before .before .before .if1 .left in
+    next-done (a .operation) (a .place) (a .piece .now) (a .table .now) (a .doc .now) (a .used) (s .pre .0) (s .pre .1) f z (c .before .before .before .before .before .before .before .judged .ensures) (c .before .before .before .before .before .if2 .left) (c .before .before .commit .ensures .0) (c .before .before .commit .ensures .1)
+
+pub next-edit-spec : {M : Type 1} → statement M
+next-edit-spec =
+    tie.close
+    (tie.spec
+    form-of-requires
+    refused-requires
+    same-length
+    same-length-2
+    returns
+    judged-requires
+    refused-requires-2
+    same-length-3
+    same-length-4
+    returns-2
+    commit-requires
+    same-length-5
+    same-length-6
+    returns-3)
