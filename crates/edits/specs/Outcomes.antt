@@ -32,7 +32,7 @@ use Rattle.back_laws.specs.Sizes.{size-form, size-short, size-iff}
 use Rattle.back.specs.Noted.{countBy, Cuts, cuts, count-few, need-is}
 use Rattle.shape_laws.specs.Five.{allowed-within}
 use Rattle.form.specs.Form.{Formed}
-use Rattle.touched.specs.Touched.{Found}
+use Rattle.touched.specs.Judged.{Found}
 use Rattle.written.specs.Written.{splice-front, splice-piece}
 use Rattle.shape_laws.specs.Bridge.{length-toks, toks-drop}
 

@@ -120,7 +120,7 @@ pub fn first_fault(
 }
 
 // "the root's name (10, place 0)"; 0 for no fault.
-fn root_number(table: &[u64], doc: &[u32], used: usize) -> u32
+pub fn root_number(table: &[u64], doc: &[u32], used: usize) -> u32
     requires { ⌜ (proper (now table) ≡ true) × (used ≤ length (now doc)) ⌝ }
     ensures { λ r. ⌜ (r, 0) ≡ rootFault (ofTable (now (table .entry))) (toks (take used (now (doc .entry)))) ⌝ }
 {

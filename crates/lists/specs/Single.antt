@@ -28,7 +28,7 @@ use Rattle.form.specs.declared.Form.{Form}
 use Rattle.form.specs.Form.{Formed}
 use Rattle.edits.specs.declared.Answer.{Answer}
 use Rattle.touched.specs.declared.Finding.{Finding}
-use Rattle.touched.specs.Touched.{Found}
+use Rattle.touched.specs.Judged.{Found}
 use Rattle.edits.specs.Outcomes.{outcomeOf, refusal, doneWith, edit-form, edit-fault, edit-done}
 
 second-long : length second ≡ mostBack

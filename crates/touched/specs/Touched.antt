@@ -9,14 +9,11 @@ use lib.Seq.{take-take}
 use Rattle.paper.specs.declared.Tok.{Tok}
 use Rattle.paper.specs.Tokens.{toks, starts, balanced, parent, touched}
 use Rattle.paper.specs.Rules.{ofTable}
-use Rattle.paper.specs.Judgement.{Answer, first, placeOf, elementFault, judge, orElse}
-use Rattle.paper.specs.Edits.{childrenOf}
+use Rattle.paper.specs.Judgement.{Answer, first, placeOf, elementFault, orElse}
 use Rattle.shape_laws.specs.Bridge.{toks-take, length-toks}
 use Rattle.shape_laws.specs.Touch.{inside, touched-is, parentOf}
-use Rattle.touched.specs.declared.Finding.{Finding}
 use Rattle.keys.specs.declared.Fault.{Fault}
 use Rattle.judge.specs.Elements.{numberAt, faultOf, found-first, found-none, firstIn, first-same}
-use Rattle.judge.specs.Check.{judgedWith, judged-is}
 
 -- the first fault among the touched elements
 abbrev pub touchedFirst : (table doc : List ℕ) (used at n : ℕ) → Answer
@@ -80,20 +77,3 @@ module _ (table doc : List ℕ) (used at n : ℕ) (l : used ≤ length doc) (h :
 
     pub touched-piece : {f : Fault} → a .0 ≡ 0 → (f .number, f .place) ≡ firstIn table doc used at (at + n) → (f .number, f .place) ≡ touchedFirst table doc used at n
     touched-piece z e = e ∙ ap (λ x. orElse x place (firstIn table doc used at (at + n))) (sym (found-none number place ea z)) ∙ both
-
--- the judgement at what is touched, and, where it finds no fault, the number of children looked at
-pub record Found (table doc : List ℕ) (used at n : ℕ) (r : Finding) : Type 0 where
-  pub fault : (r .number, r .place) ≡ judge (ofTable table) (touched at n (toks (take used doc))) (toks (take used doc))
-  pub looked : r .number ≡ 0 → r .children ≡ childrenOf (touched at n (toks (take used doc))) 0 (toks (take used doc))
-
-module _ (table doc : List ℕ) (used at n : ℕ) {f w : Fault} (ef : (f .number, f .place) ≡ touchedFirst table doc used at n)
-    (ew : (w .number, w .place) ≡ judgedWith table doc used (f .number, f .place)) where
-  judgement : (w .number, w .place) ≡ judge (ofTable table) (touched at n (toks (take used doc))) (toks (take used doc))
-  judgement = ew ∙ ap (judgedWith table doc used) ef ∙ judged-is table doc used (touched at n (toks (take used doc)))
-
-  pub found-fault : (w .number ≡ 0 → ⊥) → Found table doc used at n (record { number = w .number; place = w .place; children = 0 })
-  found-fault h = record { fault = judgement; looked = λ z. absurd (h z) }
-
-  pub found-done : {k : ℕ} → k ≡ childrenOf (touched at n (toks (take used doc))) 0 (toks (take used doc))
-      → Found table doc used at n (record { number = w .number; place = w .place; children = k })
-  found-done ek = record { fault = judgement; looked = λ z. ek }

@@ -5,8 +5,9 @@ use closing::closes;
 use cost::looked_at;
 use judge::element_fault;
 use judge::first_fault;
-use judge::judged_with;
+use judge::root_number;
 use keys::Fault;
+use keys::key_fault;
 use places::parent_of;
 ghost use mathlib.Core.Path.{_≡_};
 ghost use mathlib.Core.Bool.{true};
@@ -18,7 +19,8 @@ ghost use Rattle.paper.specs.Table.{proper};
 ghost use Rattle.shape_laws.specs.Touch.{parentOf};
 ghost use Rattle.shape_laws.specs.Widths.{Comes};
 ghost use Rattle.children.specs.Closed.{Closed};
-ghost use Rattle.touched.specs.Touched.{touchedFirst, Found};
+ghost use Rattle.touched.specs.Touched.{touchedFirst};
+ghost use Rattle.touched.specs.Judged.{Elements, Found};
 
 // "7, 8 and 9 only at touched elements": the parent, then the elements of the piece, which begins at a place.
 fn touched_fault(
@@ -53,18 +55,25 @@ pub struct Finding {
     pub children: u32,
 }
 
-// "Then the edited document is judged as above": its first `used` tokens, at what is touched. The piece is `coming` tokens at a place.
-pub fn judged(table: &[u64], doc: &[u32], used: usize, at: usize, coming: usize) -> Finding
+// The root and the elements that are touched (7 to 10), without IDs and references. The piece is `coming` tokens at a place.
+pub fn judged_elements(table: &[u64], doc: &[u32], used: usize, at: usize, coming: usize) -> Finding
     requires { ⌜ proper (now table) ≡ true ⌝ }
     requires { ⌜ (used ≤ length (now doc)) × (used ≤ mostTokens) × (at + coming ≤ used) ⌝ }
     requires { ⌜ Comes (drop at (toks (take (at + coming) (now doc)))) ⌝ }
-    ensures { λ r. ⌜ Found (now (table .entry)) (now (doc .entry)) used at coming r ⌝ }
+    ensures { λ r. ⌜ Elements (now (table .entry)) (now (doc .entry)) used at coming r ⌝ }
 {
+    let root = root_number(table, doc, used);
+    if root != paper::DONE {
+        return Finding {
+            number: root,
+            place: 0,
+            children: 0,
+        };
+    }
     let mut ends = [0u32; paper::MOST_TOKENS];
     closes(doc, used, &mut ends);
     let parent = parent_of(doc, at);
-    let elements = touched_fault(table, doc, used, &ends, at, coming, parent);
-    let fault = judged_with(table, doc, used, elements);
+    let fault = touched_fault(table, doc, used, &ends, at, coming, parent);
     if fault.number != paper::DONE {
         return Finding {
             number: fault.number,
@@ -76,5 +85,31 @@ pub fn judged(table: &[u64], doc: &[u32], used: usize, at: usize, coming: usize)
         number: fault.number,
         place: fault.place,
         children: looked_at(doc, used, &ends, at, coming, parent),
+    }
+}
+
+// "Then the edited document is judged as above": its first `used` tokens, at what is touched, IDs and references included.
+pub fn judged(table: &[u64], doc: &[u32], used: usize, at: usize, coming: usize) -> Finding
+    requires { ⌜ proper (now table) ≡ true ⌝ }
+    requires { ⌜ (used ≤ length (now doc)) × (used ≤ mostTokens) × (at + coming ≤ used) ⌝ }
+    requires { ⌜ Comes (drop at (toks (take (at + coming) (now doc)))) ⌝ }
+    ensures { λ r. ⌜ Found (now (table .entry)) (now (doc .entry)) used at coming r ⌝ }
+{
+    let seen = judged_elements(table, doc, used, at, coming);
+    if seen.number != paper::DONE {
+        return seen;
+    }
+    let fault = key_fault(table, doc, used);
+    if fault.number != paper::DONE {
+        return Finding {
+            number: fault.number,
+            place: fault.place,
+            children: 0,
+        };
+    }
+    Finding {
+        number: fault.number,
+        place: fault.place,
+        children: seen.children,
     }
 }

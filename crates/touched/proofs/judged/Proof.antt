@@ -1,57 +1,23 @@
 -- `touched::judged` meets its contract. Assumes nothing.
-use Rattle.children.specs.Closed.{closed}
-use Rattle.touched.specs.Touched.{found-fault, found-done}
+use Rattle.touched.specs.Judged.{found-elements, found-keys, found-done}
 use borrow.Author.Needs.{needs}
 use Rattle.touched.proofs.judged.Statement.{statement}
 use Rattle.touched.proofs.judged.Tie as tie
 
-slice-aggregate-closes : tie.Need-slice-aggregate-closes
-slice-aggregate-closes c = search needs
-
-closes-requires : tie.Need-closes-requires
-closes-requires c κs = search needs
-
-parent-of-requires : tie.Need-parent-of-requires
-parent-of-requires c κs = search needs
-
-slice-aggregate-touched-fault : tie.Need-slice-aggregate-touched-fault
-slice-aggregate-touched-fault c = search needs
-
-touched-fault-requires : tie.Need-touched-fault-requires
-touched-fault-requires c κs =
-    let s = c .before .before .before .before .before .before .before in
-    let ends = closed (s .args .doc .now) (s .args .used) _ (s .pre .1 .0 .0) (c .before .before .before .closes .ensures) in
-    (s .pre .0, (ends, (s .pre .1 .0, c .before .parent-of .ensures)))
-
-judged-with-requires : tie.Need-judged-with-requires
-judged-with-requires c κs = search needs
+judged-elements-requires : tie.Need-judged-elements-requires
+judged-elements-requires c κs = search needs
 
 returns : tie.Need-returns
-returns c = search found-fault
+returns c = search found-elements
 
-slice-aggregate-looked-at : tie.Need-slice-aggregate-looked-at
-slice-aggregate-looked-at c = search needs
-
-looked-at-requires : tie.Need-looked-at-requires
-looked-at-requires c κs =
-    let s = c .before .before .before .before .before .before .before .before .before .before .before .before in
-    let ends = closed (s .args .doc .now) (s .args .used) _ (s .pre .1 .0 .0) (c .before .before .before .before .before .before .before .before .closes .ensures) in
-    (ends, (s .pre .1 .0, (s .pre .1 .1, c .before .before .before .before .before .before .parent-of .ensures)))
+key-fault-requires : tie.Need-key-fault-requires
+key-fault-requires c κs = search needs
 
 returns-2 : tie.Need-returns-2
-returns-2 c = search found-done
+returns-2 c = search found-keys
+
+returns-3 : tie.Need-returns-3
+returns-3 c = search found-done
 
 pub judged-spec : {M : Type 1} → statement M
-judged-spec =
-    tie.close
-    (tie.spec
-    slice-aggregate-closes
-    closes-requires
-    parent-of-requires
-    slice-aggregate-touched-fault
-    touched-fault-requires
-    judged-with-requires
-    returns
-    slice-aggregate-looked-at
-    looked-at-requires
-    returns-2)
+judged-spec = tie.close (tie.spec judged-elements-requires returns key-fault-requires returns-2 returns-3)
