@@ -50,6 +50,20 @@ module _ {S : Type 0} (call : S → Request → S) (number : S → ℕ) where
   pub run-singles : (l : List Request) (o : S) → runList call number 0 o l ≡ bySingles o l
   run-singles l o = run-is-calls l o 0 ∙ ap (λ n. record { last = lastOf o (calls o l); done = n }) (zero-add (doneIn (calls o l)))
 
+  -- The edits that were done are, by themselves, all done.
+  pub singles-done : (l : List Request) (o : S) → number o ≡ 0
+      → let d : ℕ = bySingles o l .done in (number (bySingles o (take d l) .last) ≡ 0) × (bySingles o (take d l) .done ≡ d)
+  singles-done [] o z = (z, refl)
+  singles-done (q ∷ l) o z = go (eqb (number (call o q)) 0) refl (singles-done l (call o q))
+    where
+      go : (b : Bool) → eqb (number (call o q)) 0 ≡ b
+          → let next : S = call o q in
+          (number next ≡ 0 → (number (bySingles next (take (bySingles next l .done) l) .last) ≡ 0) × (bySingles next (take (bySingles next l .done) l) .done ≡ bySingles next l .done))
+          → let d : ℕ = cond b (suc (doneIn (cond b (calls next l) []))) (doneIn (cond b (calls next l) [])) in
+          (number (bySingles o (take d (q ∷ l)) .last) ≡ 0) × (bySingles o (take d (q ∷ l)) .done ≡ d)
+      go true e h = let (y, f) = h (eqb-true (number (call o q)) 0 e) in rw e (y, ap suc f)
+      go false e h = (z, refl)
+
   -- Where a refused call keeps what it was made on, edits that end in a refusal leave what those that were done left.
   module _ (Keeps : S → S → Type 0) (keeps : (o : S) (q : Request) → number (call o q) ≢ 0 → Keeps o (call o q)) where
     pub singles-stand : (l : List Request) (o : S) → number o ≡ 0 → number (bySingles o l .last) ≢ 0

@@ -16,7 +16,6 @@ use Rattle.edits.specs.Outcomes.{outcomeOf, refusal}
 use Rattle.edit_list.specs.declared.Edit.{Edit}
 use Rattle.edit_list.specs.Places.{Within, Handed, requestOf}
 use Rattle.edit_list.specs.Left.{Left, Whole, left-all, Next, left-none, left-next}
-use Rattle.lists.specs.declared.Listed.{Listed}
 use Rattle.lists.specs.Outcomes.{listedOf}
 use Rattle.lists.specs.Single.{next-shape}
 
@@ -39,10 +38,8 @@ module _ (table doc₀ : List ℕ) (used : ℕ) (list : List ℕ) where
 
   module _ {doc new : List ℕ} {last : Answer} {done at : ℕ} (g : Going table doc₀ used list doc new last done at) where
     -- no edit is left
-    pub going-end : length list ≤ at → {r : Listed} → r ≡ record { last = last; done = done } → listedOf r doc ≡ editList table doc₀ used list
-    going-end h e =
-        let z = left-none list at done (g .ahead) (g .left) h in
-        ap (λ x. listedOf x doc) e ∙ sym (g .same ∙ rw z)
+    pub going-end : length list ≤ at → listedOf (record { last = last; done = done }) doc ≡ editList table doc₀ used list
+    going-end h = let z = left-none list at done (g .ahead) (g .left) h in sym (g .same ∙ rw z)
 
     module _ (h : at < length list) where
       next : Next list at done (g .ahead)
@@ -54,6 +51,10 @@ module _ (table doc₀ : List ℕ) (used : ℕ) (list : List ℕ) where
       pub going-few : done < mostEdits
       going-few = omega (arith, next .left .few)
 
+      pub going-less : {e : Edit} → Handed list at e → length list - e .to < length list - at
+      going-less o = rw (o .same) (omega (arith, next .within .piece))
+
+      -- the edit there, made on what is left
       module _ {e : Edit} (o : Handed list at e) {last′ : Answer} {doc′ : List ℕ}
           (s : outcomeOf last′ doc′ [] ≡ nextEdit table (lentWith doc (last .used) 0) (requestOf list e)) where
         abbrev call : Outcome → Request → Outcome
@@ -66,8 +67,8 @@ module _ (table doc₀ : List ℕ) (used : ℕ) (list : List ℕ) where
         first = next .first ∙ ap (λ (x : Edit). requestOf list x ∷ next .rest) (sym (o .same))
 
         -- "It ends at the first refusal; what was done before stands."
-        pub going-refused : (last′ .number ≡ 0 → ⊥) → {r : Listed} → r ≡ record { last = last′; done = done } → listedOf r doc′ ≡ editList table doc₀ used list
-        going-refused n er = ap (λ x. listedOf x doc′) er ∙ sym (g .same ∙ ap (runList call numberOf done (outcomeOf last doc [])) first ∙ rw (← s, ne-eqb (last′ .number) 0 n))
+        pub going-refused : (last′ .number ≡ 0 → ⊥) → listedOf (record { last = last′; done = done }) doc′ ≡ editList table doc₀ used list
+        going-refused n = sym (g .same ∙ ap (runList call numberOf done (outcomeOf last doc [])) first ∙ rw (← s, ne-eqb (last′ .number) 0 n))
 
         module _ (z : last′ .number ≡ 0) where
           more : runList call numberOf done (outcomeOf last doc []) (q ∷ next .rest) ≡ runList call numberOf (done + 1) (outcomeOf last′ doc′ []) (next .rest)
@@ -82,6 +83,3 @@ module _ (table doc₀ : List ℕ) (used : ℕ) (list : List ℕ) where
             left = rw (o .same) (next .left);
             same = g .same ∙ ap (runList call numberOf done (outcomeOf last doc [])) first ∙ more;
           }
-
-          pub going-less : length list - e .to < length list - at
-          going-less = rw (o .same) (omega (arith, next .within .piece))

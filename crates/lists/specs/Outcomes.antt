@@ -32,7 +32,7 @@ module _ (table buffer : List ℕ) (used : ℕ) (list : List ℕ) where
       go (fault k) e = ap (λ x. listedOf (listRefusal x used) buffer) e
       go (edits es) e = absurd (h e)
 
-  -- the first edit's refusal of what was lent: "13 and shape 4, which are answers of its first edit"
+  -- table (13) and document shape (4) are answers of the first edit
   module _ {k : ℕ} (ek : k ≡ faultOf (splitList list)) (z : k ≡ 0) where
     pub has-edits : 0 ≡ faultOf (splitList list)
     has-edits = sym z ∙ ek

@@ -53,7 +53,7 @@ module _ (op place : ℕ) (piece table buf : List ℕ) (used : ℕ) (p : proper 
     next-form h e = ap alone (edit-form op place piece buf used table second f h e ∙ whole-call second)
 
     module _ (z : r .number ≡ 0) {w : Finding} (ew : Found table after (r .used) (r .at) (r .coming) w) where
-      -- "with room for its inverse"
+      -- any inverse has room
       room : needs q doc ≤ length second
       room = omega (arith, needs-most (length buf) q doc (shape-document buf used sh) (sym (f .number) ∙ z), second-long)
 

@@ -20,8 +20,8 @@ ghost use Rattle.paper.specs.Lists.{splitList, faultOf, lentWith, nextEdit, edi
 ghost use Rattle.edits.specs.Outcomes.{outcomeOf};
 ghost use Rattle.lists.specs.Outcomes.{listedOf, listRefusal};
 
-// One edit of a document with shape, by a proper table: what a single call comes to "with room for its inverse". "It writes no inverses." The
-// edited tokens are made in a buffer that is lent for it.
+// One edit of a document with shape, by a proper table: what a single call comes to that has room for its inverse. "It writes no inverses."
+// The edited tokens are made in a buffer that is lent for it.
 fn next_edit(
     table: &[u64],
     doc: &mut [u32],

@@ -1,5 +1,6 @@
 -- `lists::run` meets its contract. The loop's invariant is `Going`; the measure is how many numbers are left. Assumes nothing.
 use Prim.Native.Nat.{_-_}
+use native.Mathlib.Omega.{arith}
 use borrow.Author.Needs.{needs}
 use lib.ListN.{length}
 use Rattle.lists.specs.Going.{Going, going-none, going-end, going-within, going-few, going-refused, going-next, going-less}
@@ -46,13 +47,15 @@ same-length : tie.Need-same-length Inv-loop μ-loop
 same-length c = search needs
 
 returns : tie.Need-returns Inv-loop μ-loop
-returns c = search going-refused
+returns c =
+    going-refused _ _ _ _ (c .before .before .before .before .before .before .before .before .before .before .before .before .loop .inv) (c .before .before .before .before .before .before .before .before .before .before .before .loop-test .taken) (c .before .before .before .before .before .before .before .before .before .before .edit-at .ensures) (c .before .before .before .before .before .next-edit .ensures) (λ z. absurd (omega (arith, c .if1 .taken)))
 
 add-done : tie.Need-add-done Inv-loop μ-loop
 add-done c = search (needs, going-few)
 
 loop-less : tie.Need-loop-less Inv-loop μ-loop
-loop-less c = search going-less
+loop-less c =
+    omega (arith, going-less _ _ _ _ (c .before .before .before .before .before .before .before .before .before .before .before .before .loop .inv) (c .before .before .before .before .before .before .before .before .before .before .before .loop-test .taken) (c .before .before .before .before .before .before .before .before .before .before .edit-at .ensures), c .before .before .before .before .before .before .before .before .before .before .before .loop-test .taken)
 
 loop-again : tie.Need-loop-again Inv-loop μ-loop
 loop-again c = search going-next
