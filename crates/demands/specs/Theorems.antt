@@ -1,20 +1,22 @@
--- The demands, of any outcomes that the contracts of the library's nine calls allow: those that a host links and runs. A line for each
+-- The demands, of any outcomes that the contracts of the library's ten calls allow: those that a host links and runs. A line for each
 -- promise. Assumes nothing.
 use Rattle.contracts.specs.{TakesAll, Allows}
 use Rattle.promises.specs.Calls.{Calls, Faithful}
 use Rattle.promises.specs.Statements as promised
 use Rattle.promises.specs.Undo as undo
 use Rattle.promises.specs.Dtd as dtd
+use Rattle.promises.specs.Lists as lists
 use Rattle.promises.specs.Inclusion as inclusion
 use Rattle.promises.specs.Cost as cost
 use Rattle.promises.specs.Theorems as proved
 use Rattle.promises.specs.UndoTheorems as undone
+use Rattle.promises.specs.ListTheorems as listed
 use Rattle.promises.specs.DtdTheorems as texts
-use Rattle.shrikemuff.proofs.Contracts.{shrike-read, shrike-write, shrike-translate, shrike-check, shrike-edit, shrike-compare}
+use Rattle.shrikemuff.proofs.Contracts.{shrike-read, shrike-write, shrike-translate, shrike-check, shrike-edit, shrike-list, shrike-compare}
 use Rattle.shrikemuff.proofs.Contracts.{shrike-import, shrike-names, shrike-import-spot}
 use Rattle.shrikemuff.proofs.Contracts as contracts
 
--- the library's nine calls, each by its own contract
+-- the library's ten calls, each by its own contract
 abbrev pub shrikes : Calls
 shrikes = record {
   Reads = λ file buffer. Allows shrike-read (file, buffer);
@@ -22,6 +24,7 @@ shrikes = record {
   Translates = λ file table. Allows shrike-translate (file, table);
   Checks = λ table buffer used. Allows shrike-check (table, buffer, used);
   Performs = λ table buffer used q second. Allows shrike-edit (table, buffer, used, q, second);
+  PerformsList = λ table buffer used list. Allows shrike-list (table, buffer, used, list);
   Compares = λ old new e buffer. Allows shrike-compare (old, new, e, buffer);
   Imports = λ text buffer. Allows shrike-import (text, buffer);
   Names = λ text buffer. Allows shrike-names (text, buffer);
@@ -35,6 +38,7 @@ faithful = record {
   translates = λ file table. contracts.translates (file, table);
   checks = λ table buffer used. contracts.checks (table, buffer, used);
   performs = λ table buffer used q second. contracts.performs (table, buffer, used, q, second);
+  performs-list = λ table buffer used list. contracts.performs-list (table, buffer, used, list);
   compares = λ old new e buffer. contracts.compares (old, new, e, buffer);
   imports = λ text buffer. contracts.imports (text, buffer);
   names = λ text buffer. contracts.lists (text, buffer);
@@ -61,8 +65,8 @@ edit-determinate = proved.edit-determinate shrikes faithful
 -- ---- demand 1
 
 -- "Every call takes every input"
-pub take-all : TakesAll shrike-read × TakesAll shrike-write × TakesAll shrike-translate × TakesAll shrike-check × TakesAll shrike-edit × TakesAll shrike-compare × TakesAll shrike-import × TakesAll shrike-names × TakesAll shrike-import-spot
-take-all = (contracts.read-takes-all, contracts.write-takes-all, contracts.translate-takes-all, contracts.check-takes-all, contracts.edit-takes-all, contracts.compare-takes-all, contracts.import-takes-all, contracts.names-takes-all, contracts.spot-takes-all)
+pub take-all : TakesAll shrike-read × TakesAll shrike-write × TakesAll shrike-translate × TakesAll shrike-check × TakesAll shrike-edit × TakesAll shrike-list × TakesAll shrike-compare × TakesAll shrike-import × TakesAll shrike-names × TakesAll shrike-import-spot
+take-all = (contracts.read-takes-all, contracts.write-takes-all, contracts.translate-takes-all, contracts.check-takes-all, contracts.edit-takes-all, contracts.list-takes-all, contracts.compare-takes-all, contracts.import-takes-all, contracts.names-takes-all, contracts.spot-takes-all)
 
 pub read-answers : promised.ReadAnswers shrikes
 read-answers = proved.read-answers shrikes faithful
@@ -218,6 +222,26 @@ check-by-text = texts.check-by-text shrikes faithful
 
 pub demand-3-by-text : dtd.Demand3ByText shrikes
 demand-3-by-text = texts.demand-3-by-text shrikes faithful
+
+-- ---- item 6
+
+pub list-determinate : lists.ListDeterminate shrikes
+list-determinate = listed.list-determinate shrikes faithful
+
+pub list-answers : lists.ListAnswers shrikes
+list-answers = listed.list-answers shrikes faithful
+
+pub list-faults : lists.ListFaults shrikes
+list-faults = listed.list-faults shrikes faithful
+
+pub list-is-singles : lists.ListIsSingles shrikes
+list-is-singles = listed.list-is-singles shrikes faithful
+
+pub list-stands : lists.ListStands shrikes
+list-stands = listed.list-stands shrikes faithful
+
+pub list-right : lists.ListRight shrikes
+list-right = listed.list-right shrikes faithful
 
 -- ---- item 10
 

@@ -1,9 +1,10 @@
--- Nine calls, each by the outcomes that its contract allows. A promise is said of any such nine. Assumes nothing.
+-- Ten calls, each by the outcomes that its contract allows. A promise is said of any such ten. Assumes nothing.
 use mathlib.Core.List.{List}
 use Prim.Native.Nat.{ℕ}
 use Rattle.paper.specs.Files.{Counted}
 use Rattle.paper.specs.Judgement.{Answer}
 use Rattle.paper.specs.Edits.{Request, Outcome}
+use Rattle.paper.specs.Lists.{Listed}
 use Rattle.paper.specs.Inclusion.{Compared}
 use Rattle.paper.specs.Dtd.Imported.{Spot}
 use Rattle.paper.specs.Calls as paper
@@ -15,12 +16,13 @@ pub record Calls : Type 1 where
   pub Translates : (file table : List ℕ) → ℕ × List ℕ → Type 0
   pub Checks : (table buffer : List ℕ) → (used : ℕ) → Answer → Type 0
   pub Performs : (table buffer : List ℕ) → (used : ℕ) → Request → (second : List ℕ) → Outcome → Type 0
+  pub PerformsList : (table buffer : List ℕ) → (used : ℕ) → (list : List ℕ) → Listed Outcome → Type 0
   pub Compares : (old new : List ℕ) → (element : ℕ) → (buffer : List ℕ) → Compared → Type 0
   pub Imports : (text buffer : List ℕ) → Counted → Type 0
   pub Names : (text buffer : List ℕ) → Counted → Type 0
   pub Spots : (text : List ℕ) → Spot → Type 0
 
--- the paper's nine
+-- the paper's ten
 abbrev pub papers : Calls
 papers = record {
   Reads = paper.Reads;
@@ -28,19 +30,21 @@ papers = record {
   Translates = paper.Translates;
   Checks = paper.Checks;
   Performs = paper.Performs;
+  PerformsList = paper.PerformsList;
   Compares = paper.Compares;
   Imports = paper.Imports;
   Names = paper.Names;
   Spots = paper.Spots;
 }
 
--- nine calls that allow no outcome but the paper's: of these every promise is proved
+-- ten calls that allow no outcome but the paper's: of these every promise is proved
 pub record Faithful (calls : Calls) : Type 0 where
   pub reads : (file buffer : List ℕ) (o : Counted) → calls .Reads file buffer o → paper.Reads file buffer o
   pub writes : (tokens buffer : List ℕ) (o : Counted) → calls .Writes tokens buffer o → paper.Writes tokens buffer o
   pub translates : (file table : List ℕ) (o : ℕ × List ℕ) → calls .Translates file table o → paper.Translates file table o
   pub checks : (table buffer : List ℕ) (used : ℕ) (o : Answer) → calls .Checks table buffer used o → paper.Checks table buffer used o
   pub performs : (table buffer : List ℕ) (used : ℕ) (q : Request) (second : List ℕ) (o : Outcome) → calls .Performs table buffer used q second o → paper.Performs table buffer used q second o
+  pub performs-list : (table buffer : List ℕ) (used : ℕ) (list : List ℕ) (o : Listed Outcome) → calls .PerformsList table buffer used list o → paper.PerformsList table buffer used list o
   pub compares : (old new : List ℕ) (e : ℕ) (buffer : List ℕ) (o : Compared) → calls .Compares old new e buffer o → paper.Compares old new e buffer o
   pub imports : (text buffer : List ℕ) (o : Counted) → calls .Imports text buffer o → paper.Imports text buffer o
   pub names : (text buffer : List ℕ) (o : Counted) → calls .Names text buffer o → paper.Names text buffer o
@@ -53,6 +57,7 @@ papers-faithful = record {
   translates = λ file table o t. t;
   checks = λ table buffer used o c. c;
   performs = λ table buffer used q second o p. p;
+  performs-list = λ table buffer used list o p. p;
   compares = λ old new e buffer o c. c;
   imports = λ text buffer o i. i;
   names = λ text buffer o n. n;

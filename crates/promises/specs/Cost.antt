@@ -1,4 +1,4 @@
--- What is promised of item 10, the children looked at, stated of any nine calls. That a done edit reports their number stands in `Left`, that a
+-- What is promised of item 10, the children looked at, stated of any ten calls. That a done edit reports their number stands in `Left`, that a
 -- refused one reports 0 in `Kept`, and whose children they are on the tree in `EditIsTreeEdit` (Statements). Assumes nothing.
 use mathlib.Core.Path.{_≡_}
 use mathlib.Core.List.{List}

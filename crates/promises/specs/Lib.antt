@@ -18,11 +18,15 @@ pub mod Pointing
 -- Item 2: what is promised, and its proofs
 pub mod Undo
 pub mod Undone
+-- Item 6: what is promised, and its proofs
+pub mod Lists
+pub mod Listed
 -- Item 10: what is promised, and its proof
 pub mod Cost
 pub mod Costing
 pub mod Theorems
 pub mod DtdTheorems
 pub mod UndoTheorems
+pub mod ListTheorems
 pub mod Example
 pub mod DtdExample

@@ -1,4 +1,4 @@
--- Every promise, stated: each is a type, and its proof stands in Theorems. Those of the calls are said of any nine calls, each given
+-- Every promise, stated: each is a type, and its proof stands in Theorems. Those of the calls are said of any ten calls, each given
 -- by the outcomes that its contract allows. Assumes nothing.
 use mathlib.Core.Path.{_≡_}
 use mathlib.Core.Logic.{_↔_, _≢_, _⊎_}

@@ -1,5 +1,5 @@
--- Every promise that is proved, but for those of item 4 (DtdTheorems): a line for each statement, with the proof that it cites. Those of
--- the calls are proved of any nine that allow no outcome but the paper's. Assumes nothing.
+-- Every promise that is proved, but for those of items 2, 4 and 6 (UndoTheorems, DtdTheorems, ListTheorems): a line for each statement, with the proof that it cites. Those of
+-- the calls are proved of any ten that allow no outcome but the paper's. Assumes nothing.
 use mathlib.Core.Path.{_≡_, _∙_}
 use mathlib.Core.Logic.{_↔_}
 use mathlib.Core.Bool.{true}
@@ -160,7 +160,7 @@ module _ (calls : Calls) (is : Faithful calls) where
       write-read-done tokens buffer room o p (is .writes tokens buffer o w) z (is .reads _ room p r) l
 
   -- a translation by the calls is one by the paper's
-  by-paper : (s : Schema) (table : List ℕ) → Translated calls s table → Translated papers s table
+  pub by-paper : (s : Schema) (table : List ℕ) → Translated calls s table → Translated papers s table
   by-paper s table t = record {
     file = t .file;
     lent = t .lent;
@@ -212,7 +212,7 @@ module _ (calls : Calls) (is : Faithful calls) where
   table-reads s table t = by-table.table-reads s table (by-paper s table t)
 
   -- a run of the calls is one of the paper's
-  runs-by-paper : (table buffer : List ℕ) (used : ℕ) (l : List Step) → Runs calls table buffer used l → Runs papers table buffer used l
+  pub runs-by-paper : (table buffer : List ℕ) (used : ℕ) (l : List Step) → Runs calls table buffer used l → Runs papers table buffer used l
   runs-by-paper table buffer used [] r = tt
   runs-by-paper table buffer used (x ∷ l) (p, r) =
       (is .performs table buffer used (x .asked) (x .lent) (x .came) p, runs-by-paper table (x .came .buffer) (x .came .used) l r)

@@ -1,4 +1,4 @@
--- Item 2, "Step back": what is promised, stated of any nine calls. That a done edit writes its inverse into the second buffer, and no place
+-- Item 2, "Step back": what is promised, stated of any ten calls. That a done edit writes its inverse into the second buffer, and no place
 -- after it, stands in `Left`; that a refused one leaves both buffers in `Kept`; that the second buffer's room is a size limit in `InForm`
 -- (Right). Assumes nothing.
 use mathlib.Core.Path.{_≡_}

@@ -1,14 +1,19 @@
 -- Answers of the host library, with every place of the memory lent, as the paper's outcomes. Assumes nothing.
-use mathlib.Core.List.{List}
+use mathlib.Core.List.{List, []}
 use Prim.Native.Nat.{ℕ}
 use Rattle.paper.specs.Edits.{Outcome}
+use Rattle.paper.specs.Lists as paper
 use Rattle.paper.specs.Dtd.Imported as dtd
 use Rattle.shrikemuff.specs.declared.Answer.{Answer}
+use Rattle.shrikemuff.specs.declared.Listed.{Listed}
 use Rattle.shrikemuff.specs.declared.Spot.{Spot}
 
 abbrev pub edited : Answer → (buffer second : List ℕ) → Outcome
 edited r buffer second =
     record { number = r .number; place = r .place; used = r .used; change = r .change; children = r .children; buffer = buffer; back = second }
+
+abbrev pub listed : Listed → (buffer : List ℕ) → paper.Listed Outcome
+listed r buffer = record { last = edited (r .last) buffer []; done = r .done }
 
 abbrev pub spotted : Spot → dtd.Spot
 spotted r = record { number = r .number; offset = r .offset }

@@ -1,4 +1,4 @@
-// The host library: the nine calls under the names and types of C. `include/shrikemuff.h` describes them to a host.
+// The host library: the ten calls under the names and types of C. `include/shrikemuff.h` describes them to a host.
 //
 // A slice is a pointer and a length, a struct is C's struct. No call asks anything of its arguments, allocates or keeps state; the
 // contract of each fixes the whole outcome: the answer and every place of lent memory. `proofs/Contracts.antt` holds them to the
@@ -8,10 +8,10 @@ pub mod version;
 
 use compare::Compared;
 use docfile::Count;
-ghost use Rattle.paper.specs.Calls.{Reads, Writes, Translates, Checks, Performs, Compares, Imports, Names, Spots};
+ghost use Rattle.paper.specs.Calls.{Reads, Writes, Translates, Checks, Performs, PerformsList, Compares, Imports, Names, Spots};
 ghost use Rattle.docfile.specs.Outcome.{outcome as counted};
 ghost use Rattle.compare.specs.Outcome.{outcomeOf as compared};
-ghost use Rattle.shrikemuff.specs.Outcomes.{edited, spotted};
+ghost use Rattle.shrikemuff.specs.Outcomes.{edited, listed, spotted};
 
 // "The check answers number and place"
 #[repr(C)]
@@ -29,6 +29,13 @@ pub struct Answer {
     pub used: u64,
     pub change: i32,
     pub children: u32,
+}
+
+// Item 6: "Document, last answer and number of edits done".
+#[repr(C)]
+pub struct Listed {
+    pub last: Answer,
+    pub done: u32,
 }
 
 // Items 4 and 13: the byte offset in a text of what is at fault.
@@ -103,6 +110,25 @@ pub extern "C" fn shrike_edit(
         used: made.used as u64,
         change: made.change,
         children: made.children,
+    }
+}
+
+// Makes the edits of a list one after another, up to the first refusal. No inverse is written.
+#[no_mangle]
+pub extern "C" fn shrike_list(table: &[u64], doc: &mut [u32], used: u64, list: &[u32]) -> Listed
+    ensures { λ r. ⌜ PerformsList (now (table .entry)) (now (doc .entry)) used (now (list .entry)) (listed r (now (doc .exit))) ⌝ }
+{
+    let made = lists::list(table, doc, used as usize, list);
+    let last = made.last;
+    Listed {
+        last: Answer {
+            number: last.number,
+            place: last.place,
+            used: last.used as u64,
+            change: last.change,
+            children: last.children,
+        },
+        done: made.done,
     }
 }
 
