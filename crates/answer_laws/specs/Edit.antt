@@ -23,7 +23,7 @@ abbrev Rejects : Edited → Type 0
 Rejects (rejected n p) = Answers editAnswers n p
 Rejects (done m) = Unit {0}
 
-form-number : (room : ℕ) (q : Request) (doc : List ℕ) → T (elem (formFault room q doc) (0 ∷ 4 ∷ 5 ∷ 6 ∷ []))
+pub form-number : (room : ℕ) (q : Request) (doc : List ℕ) → T (elem (formFault room q doc) (0 ∷ 4 ∷ 5 ∷ 6 ∷ []))
 unfolding formFault
 form-number room q doc =
     go (between 1 5 (q .operation)) (goodPiece (q .operation) (toks (q .piece))) (goodPlace (q .operation) (q .place) (toks (q .piece)) (toks doc)) (fits room (edited q doc))

@@ -1,0 +1,2 @@
+-- A group's answer and both buffers
+pub mod Outcomes
