@@ -160,7 +160,9 @@ module _ (table buffer : List ℕ) (used : ℕ) (list second : List ℕ) (s : sh
         pub begun-fault : (f .number ≡ 0 → ⊥) → {x : Grouped} → x ≡ refusal (f .number) (f .place) used 0
             → outcomeOf x buffer after ≡ groupBy (ofTable table) buffer used second (splitList list)
         begun-fault n e =
-            rw (e, r .holds, ← end-is .which) (rw (judged-is ef, ne-eqb (f .number) 0 n) at (by-edits (r .es) (r .splits)))
+            ap (λ y. outcomeOf y buffer after) e
+            ∙ ap₂ (λ k l. outcomeOf (refusal (f .number) (f .place) used k) buffer l) (sym (end-is .which)) (r .holds)
+            ∙ (rw (judged-is ef, ne-eqb (f .number) 0 n) at (by-edits (r .es) (r .splits)))
 
         pub begun-done : f .number ≡ 0 → {x : Grouped} {new : List ℕ} → new ≡ written buffer used (take (w .used) after)
             → x ≡ record { number = 0; place = 0; used = w .used; change = pos (w .used) -ℤ pos used; which = 0 }
