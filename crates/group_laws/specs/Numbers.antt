@@ -15,12 +15,11 @@ use Rattle.paper.specs.Rules.{ofTable}
 use Rattle.paper.specs.Judgement.{Answer, judge, whole, checking, check}
 use Rattle.paper.specs.Answers.{Answers, checkAnswers}
 use Rattle.paper.specs.Edits.{Request, formFault}
-use Rattle.shape_laws.specs.Shaped.{shape-alone}
 use Rattle.answer_laws.specs.Check.{check-answers}
 use Rattle.answer_laws.specs.Edit.{form-number}
 use Rattle.answer_laws.specs.Judged.{each}
 use Rattle.group_laws.specs.Groups.{groupAnswers, after, Work, GroupOutcome, verdict, copied, stopped, begun, group}
-use Rattle.group_laws.specs.Worked.{Refused, Reached, worked-told, shape-after}
+use Rattle.group_laws.specs.Worked.{Refused, Reached, worked-told, shape-alone, shape-after}
 use Rattle.group_laws.specs.Kept.{Begins, by-ways}
 
 formed : (room : ℕ) (q : Request) (doc : List ℕ) → T (elem (formFault room q doc) groupAnswers)

@@ -5,10 +5,10 @@ use mathlib.Core.Bool.{Bool, true, false, cond, _&&_, and-eq-true-iff}
 use mathlib.Core.List.{List, [], _∷_, _++_}
 use Prim.Native.Nat.{ℕ, suc, _+_, _≤_, max}
 use native.Mathlib.Omega.{arith}
-use borrow.Author.Tests.{eqb-true, eqb-false, leb-true}
+use borrow.Author.Tests.{eqb-true, eqb-false, leb-true, le-leb}
 use lib.Dec.{leb, eqb}
-use lib.ListN.{length}
-use lib.Seq.{take-length}
+use lib.ListN.{length, take, length-take}
+use lib.Seq.{take-length, take-take, length-take-le}
 use Rattle.paper.specs.Basics.{mostTokens}
 use Rattle.paper.specs.Tokens.{toks}
 use Rattle.paper.specs.Shape.{isElement, shallow, shapeOf}
@@ -17,6 +17,22 @@ use Rattle.paper.specs.Edits.{Request, edited, formFault}
 use Rattle.shape_laws.specs.EditJudged.{form-iff, asked-shape}
 use Rattle.shape_laws.specs.Shaped.{shaped}
 use Rattle.group_laws.specs.Groups.{Work, worked, after, AllInForm}
+
+-- ---- a document in its buffer
+
+module _ (buf : List ℕ) (used : ℕ) (e : shapeOf buf used ≡ true) where
+  -- the first places of its buffer hold it
+  pub shape-front : (room : ℕ) → used ≤ room → shapeOf (take room buf) used ≡ true
+  unfolding shapeOf
+  shape-front room h =
+      let l : used ≤ length buf = shaped buf used e .long in
+      rw (take-take used room buf h, le-leb used (length (take room buf)) (omega (arith, length-take room buf))) (rw (le-leb used (length buf) l) at e)
+
+  -- it is one alone
+  pub shape-alone : shapeOf (take used buf) (length (take used buf)) ≡ true
+  shape-alone = rw (length-take-le used buf (shaped buf used e .long)) (shape-front used (omega arith))
+
+-- ---- all in form, or not
 
 -- the first edit that is not in form, behind some that are
 pub record Refused (room k : ℕ) (doc : List ℕ) (es : List Request) (w : Work) : Type 0 where

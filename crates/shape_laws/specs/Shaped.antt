@@ -3,11 +3,9 @@ use mathlib.Core.Path.{_≡_}
 use mathlib.Core.Bool.{true, and-eq-true-iff}
 use mathlib.Core.List.{List}
 use Prim.Native.Nat.{ℕ, _≤_}
-use native.Mathlib.Omega.{arith}
-use borrow.Author.Tests.{leb-true, le-leb}
+use borrow.Author.Tests.{leb-true}
 use lib.Dec.{leb}
-use lib.ListN.{length, take, length-take}
-use lib.Seq.{take-take, length-take-le}
+use lib.ListN.{length, take}
 use Rattle.paper.specs.declared.Tok.{Tok}
 use Rattle.paper.specs.Basics.{mostTokens, mostDeep}
 use Rattle.paper.specs.Tokens.{toks, deep}
@@ -28,15 +26,3 @@ shaped buf used e =
     let (s, long) = and-eq-true-iff _ (leb used (length buf)) .0 s in
     let (_, few) = and-eq-true-iff (leb 2 used) (leb used mostTokens) .0 s in
     record { few = leb-true used mostTokens few; long = leb-true used (length buf) long; one = one; low = leb-true (deep 0 d) mostDeep low }
-
-module _ (buf : List ℕ) (used : ℕ) (e : shapeOf buf used ≡ true) where
-  -- the first places of its buffer hold it
-  pub shape-front : (room : ℕ) → used ≤ room → shapeOf (take room buf) used ≡ true
-  unfolding shapeOf
-  shape-front room h =
-      let l : used ≤ length buf = shaped buf used e .long in
-      rw (take-take used room buf h, le-leb used (length (take room buf)) (omega (arith, length-take room buf))) (rw (le-leb used (length buf) l) at e)
-
-  -- it is one alone
-  pub shape-alone : shapeOf (take used buf) (length (take used buf)) ≡ true
-  shape-alone = rw (length-take-le used buf (shaped buf used e .long)) (shape-front used (omega arith))

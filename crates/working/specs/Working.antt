@@ -11,10 +11,9 @@ use Rattle.paper.specs.Basics.{mostTokens, mostEdits}
 use Rattle.paper.specs.Shape.{shapeOf}
 use Rattle.paper.specs.Edits.{Request, edited, formFault, written}
 use Rattle.paper.specs.Lists.{edits, splitList, faultOf}
-use Rattle.shape_laws.specs.Shaped.{shaped, shape-front, shape-alone}
 use Rattle.shape_laws.specs.Written.{written-length, written-shape, written-take}
 use Rattle.group_laws.specs.Groups.{Work, worked, reachedIn}
-use Rattle.group_laws.specs.Worked.{edited-fits, edited-shape}
+use Rattle.group_laws.specs.Worked.{shape-alone, edited-fits, edited-shape}
 use Rattle.group_laws.specs.Second.{written-twice}
 use Rattle.edit_list.specs.declared.Edit.{Edit}
 use Rattle.edit_list.specs.Places.{Within, editAt, Handed, requestOf}

@@ -3,7 +3,7 @@ use mathlib.Core.Path.{refl, sym}
 use native.Mathlib.Omega.{arith}
 use borrow.Author.Needs.{needs}
 use lib.Seq.{length-take-le}
-use Rattle.shape_laws.specs.Shaped.{shape-front}
+use Rattle.group_laws.specs.Worked.{shape-front}
 use Rattle.working.specs.Working.{turn-refused, turn-room, turn-long, turn-done}
 use Rattle.working.proofs.turn.Statement.{statement}
 use Rattle.working.proofs.turn.Tie as tie
