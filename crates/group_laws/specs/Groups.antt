@@ -116,3 +116,9 @@ after (q ∷ l) doc = after l (edited q doc)
 abbrev pub AllInForm : (room : ℕ) → List Request → List ℕ → Type 0
 AllInForm room [] doc = Unit {0}
 AllInForm room (q ∷ l) doc = (formFault room q doc ≡ 0) × AllInForm room l (edited q doc)
+
+-- ---- the contract
+
+-- the group: number, place, used length, change in length, which edit was refused, the buffer and the second one
+abbrev pub PerformsGroup : (table buffer : List ℕ) → (used : ℕ) → (list second : List ℕ) → GroupOutcome → Type 0
+PerformsGroup table buffer used list second o = o ≡ group table buffer used list second

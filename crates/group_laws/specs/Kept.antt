@@ -63,18 +63,18 @@ module _ (P : GroupOutcome → Type 0) (table buffer : List ℕ) (used : ℕ) (s
 -- ---- the first buffer
 
 -- the first buffer, its used length, and no change
-abbrev pub GroupKept : (buffer : List ℕ) → (used : ℕ) → GroupOutcome → Type 0
-GroupKept buffer used o = (o .used ≡ used) × (o .change ≡ pos 0) × (o .buffer ≡ buffer)
+abbrev Kept : (buffer : List ℕ) → (used : ℕ) → GroupOutcome → Type 0
+Kept buffer used o = (o .used ≡ used) × (o .change ≡ pos 0) × (o .buffer ≡ buffer)
 
 -- "or nothing in the first buffer changes": a refused group leaves it
 pub group-keeps : (table buffer : List ℕ) (used : ℕ) (list second : List ℕ) (o : GroupOutcome) → o ≡ group table buffer used list second
-    → o .number ≢ 0 → GroupKept buffer used o
+    → o .number ≢ 0 → (o .used ≡ used) × (o .change ≡ pos 0) × (o .buffer ≡ buffer)
 group-keeps table buffer used list second o e =
-    rw e (by-ways (λ o. o .number ≢ 0 → GroupKept buffer used o) table buffer used second (λ k. (refl, refl, refl)) (λ k. (refl, refl, refl)) (λ k. (refl, refl, refl)) list
+    rw e (by-ways (λ o. o .number ≢ 0 → Kept buffer used o) table buffer used second (λ k. (refl, refl, refl)) (λ k. (refl, refl, refl)) (λ k. (refl, refl, refl)) list
     (λ h es w f. ends w (verdict (ofTable table) w) (eqb (verdict (ofTable table) w .0) 0)))
   where
     ends : (w : Work) (a : Answer) (b : Bool) → let o : GroupOutcome = cond b (copied buffer used second w) (stopped buffer used second w a) in
-        o .number ≢ 0 → GroupKept buffer used o
+        o .number ≢ 0 → Kept buffer used o
     ends w a true k = absurd (k refl)
     ends w a false k = (refl, refl, refl)
 

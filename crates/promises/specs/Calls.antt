@@ -8,6 +8,8 @@ use Rattle.paper.specs.Lists.{Listed}
 use Rattle.paper.specs.Inclusion.{Compared}
 use Rattle.paper.specs.Dtd.Imported.{Spot}
 use Rattle.paper.specs.Calls as paper
+use Rattle.group_laws.specs.Groups.{GroupOutcome}
+use Rattle.group_laws.specs.Groups as groups
 
 -- what each is given, and an outcome: the answer and every place of lent memory after the call
 pub record Calls : Type 1 where
@@ -17,6 +19,7 @@ pub record Calls : Type 1 where
   pub Checks : (table buffer : List ℕ) → (used : ℕ) → Answer → Type 0
   pub Performs : (table buffer : List ℕ) → (used : ℕ) → Request → (second : List ℕ) → Outcome → Type 0
   pub PerformsList : (table buffer : List ℕ) → (used : ℕ) → (list : List ℕ) → Listed Outcome → Type 0
+  pub PerformsGroup : (table buffer : List ℕ) → (used : ℕ) → (list second : List ℕ) → GroupOutcome → Type 0
   pub Compares : (old new : List ℕ) → (element : ℕ) → (buffer : List ℕ) → Compared → Type 0
   pub Imports : (text buffer : List ℕ) → Counted → Type 0
   pub Names : (text buffer : List ℕ) → Counted → Type 0
@@ -31,6 +34,7 @@ papers = record {
   Checks = paper.Checks;
   Performs = paper.Performs;
   PerformsList = paper.PerformsList;
+  PerformsGroup = groups.PerformsGroup;
   Compares = paper.Compares;
   Imports = paper.Imports;
   Names = paper.Names;
@@ -45,6 +49,7 @@ pub record Faithful (calls : Calls) : Type 0 where
   pub checks : (table buffer : List ℕ) (used : ℕ) (o : Answer) → calls .Checks table buffer used o → paper.Checks table buffer used o
   pub performs : (table buffer : List ℕ) (used : ℕ) (q : Request) (second : List ℕ) (o : Outcome) → calls .Performs table buffer used q second o → paper.Performs table buffer used q second o
   pub performs-list : (table buffer : List ℕ) (used : ℕ) (list : List ℕ) (o : Listed Outcome) → calls .PerformsList table buffer used list o → paper.PerformsList table buffer used list o
+  pub performs-group : (table buffer : List ℕ) (used : ℕ) (list second : List ℕ) (o : GroupOutcome) → calls .PerformsGroup table buffer used list second o → groups.PerformsGroup table buffer used list second o
   pub compares : (old new : List ℕ) (e : ℕ) (buffer : List ℕ) (o : Compared) → calls .Compares old new e buffer o → paper.Compares old new e buffer o
   pub imports : (text buffer : List ℕ) (o : Counted) → calls .Imports text buffer o → paper.Imports text buffer o
   pub names : (text buffer : List ℕ) (o : Counted) → calls .Names text buffer o → paper.Names text buffer o
@@ -58,6 +63,7 @@ papers-faithful = record {
   checks = λ table buffer used o c. c;
   performs = λ table buffer used q second o p. p;
   performs-list = λ table buffer used list o p. p;
+  performs-group = λ table buffer used list second o p. p;
   compares = λ old new e buffer o c. c;
   imports = λ text buffer o i. i;
   names = λ text buffer o n. n;

@@ -21,6 +21,10 @@ pub mod Undone
 -- Item 6: what is promised, and its proofs
 pub mod Lists
 pub mod Listed
+-- Item 9: what is promised, and its proofs
+pub mod Groups
+pub mod Grouped
+pub mod GroupOne
 -- Item 10: what is promised, and its proof
 pub mod Cost
 pub mod Costing
@@ -28,5 +32,6 @@ pub mod Theorems
 pub mod DtdTheorems
 pub mod UndoTheorems
 pub mod ListTheorems
+pub mod GroupTheorems
 pub mod Example
 pub mod DtdExample
