@@ -58,14 +58,11 @@ module _ (buffer : List ℕ) (used : ℕ) (second : List ℕ) (s : shapeOf buffe
         let same : max used used ≡ used = omega arith in
         e ∙ rw (zero-add used, size, none, same)
 
-    start-length : length start ≡ length second
+    pub start-length : length start ≡ length second
     start-length = ap length start-is ∙ written-length second used doc (omega (arith, long)) (omega (arith, size, long))
 
     start-holds : take used start ≡ doc
     start-holds = ap₂ take (sym size) start-is ∙ written-take second used doc
-
-    pub start-room : length buffer ≤ length start
-    start-room = omega (arith, start-length)
 
     pub start-shape : shapeOf start used ≡ true
     start-shape = ap₂ shapeOf start-is (sym size) ∙ written-shape second used doc (omega (arith, long)) (omega (arith, size, long)) (shape-alone buffer used s)

@@ -5,7 +5,7 @@ use mir.Syntax.{w32}
 use mir.Val.{toZ, ofZ}
 use borrow.Author.Needs.{needs}
 use Rattle.shape_laws.specs.Shaped.{shaped}
-use Rattle.groups.specs.Outcomes.{start-room, start-shape, ran, begun-edit, last-long, last-few, last-room, begun-fault, begun-done}
+use Rattle.groups.specs.Outcomes.{start-length, start-shape, ran, begun-edit, last-long, last-few, last-room, begun-fault, begun-done}
 use Rattle.groups.proofs.begun.Statement.{statement}
 use Rattle.groups.proofs.begun.Tie as tie
 
@@ -20,7 +20,8 @@ work-requires c κs =
     let s = c .before .before .before .before .before .before .before .before .before .before in
     let a = s .args in
     let e = c .before .before .before .copy-tokens .ensures in
-    (start-room (a .doc .now) (a .used) (a .second .now) (s .pre .1) (s .pre .3) e, shaped (a .doc .now) (a .used) (s .pre .1) .long, start-shape (a .doc .now) (a .used) (a .second .now) (s .pre .1) (s .pre .3) e, s .pre .2)
+    let l = shaped (a .doc .now) (a .used) (s .pre .1) .long in
+    (omega (arith, start-length (a .doc .now) (a .used) (a .second .now) (s .pre .1) (s .pre .3) e, s .pre .3), omega (arith, s .pre .3), start-shape (a .doc .now) (a .used) (a .second .now) (s .pre .1) (s .pre .3) e, s .pre .2)
 
 refused-requires : tie.Need-refused-requires
 refused-requires c κs = search needs

@@ -1,4 +1,5 @@
 -- `groups::group` meets its contract. Assumes nothing.
+use Rattle.shape_laws.specs.Shaped.{shaped}
 use Rattle.groups.specs.Outcomes.{group-table, group-shape, group-list, group-short, group-begun, is-good}
 use mathlib.Core.Path.{sym, _∙_}
 use native.Mathlib.Omega.{arith}
@@ -54,7 +55,7 @@ returns-4 : tie.Need-returns-4
 returns-4 c =
     let a = c .before .before .before .before .before .before .before .before .before .before .before .before .before .args in
     group-short (a .table .now) (a .doc .now) (a .used) (a .list .now) (a .second .now) (c .before .before .before .before .before .before .before .before .proper .ensures) (c .before .before .before .before .before .before .before .if1 .left) (c .before .before .before .before .before .shape .ensures) (c .before .before .before .before .if2 .left) (c .before .before .before .list-fault .ensures)
-    (c .before .before .if3 .left) (c .before .if4 .taken) (c .refused4 .ensures)
+    (c .before .before .if3 .left) (omega (arith, c .before .if4 .taken, shaped (a .doc .now) (a .used) (is-good (c .before .before .before .before .before .shape .ensures) (c .before .before .before .before .if2 .left)) .long)) (c .refused4 .ensures)
 
 begun-requires : tie.Need-begun-requires
 begun-requires c κs = (

@@ -25,7 +25,7 @@ edit-at-requires : tie.Need-edit-at-requires Inv-loop μ-loop
 edit-at-requires c κs =
     let s = c .before .before .before .before .before in
     let a = s .args in
-    working-edit (a .second .now) (a .room) (a .used) (a .list .now) (s .pre .0) (s .pre .1) (s .pre .2) _ _ _ _ (c .before .loop .inv .0) (c .loop-test .taken)
+    working-edit (a .second .now) (a .room) (a .used) (a .list .now) (s .pre .0) (s .pre .1) (s .pre .2) _ _ _ _ (c .before .loop .inv .0) (omega (arith, c .loop-test .taken))
 
 cast-place : tie.Need-cast-place Inv-loop μ-loop
 cast-place c = search needs
@@ -34,7 +34,7 @@ add-begun : tie.Need-add-begun Inv-loop μ-loop
 add-begun c =
     let s = c .before .before .before .before .before .before .before in
     let a = s .args in
-    omega (arith, working-few (a .second .now) (a .room) (a .used) (a .list .now) (s .pre .0) (s .pre .1) (s .pre .2) _ _ _ _ (c .before .before .before .loop .inv .0) (c .before .before .loop-test .taken))
+    omega (arith, working-few (a .second .now) (a .room) (a .used) (a .list .now) (s .pre .0) (s .pre .1) (s .pre .2) _ _ _ _ (c .before .before .before .loop .inv .0) (omega (arith, c .before .before .loop-test .taken)))
 
 mul-turn : tie.Need-mul-turn Inv-loop μ-loop
 mul-turn c = search needs
@@ -65,21 +65,21 @@ returns : tie.Need-returns Inv-loop μ-loop
 returns c =
     let s = c .before .before .before .before .before .before .before .before .before .before .before .before .before .before .before .before .before in
     let a = s .args in
-    working-refused (a .second .now) (a .room) (a .used) (a .list .now) (s .pre .0) (s .pre .1) (s .pre .2) _ _ _ _ (c .before .before .before .before .before .before .before .before .before .before .before .before .before .loop .inv .0) (c .before .before .before .before .before .before .before .before .before .before .before .before .loop-test .taken) (c .before .before .before .before .before .before .before .before .before .before .before .edit-at .ensures) (c .before .before .before .before .before .before .turn .ensures)
+    working-refused (a .second .now) (a .room) (a .used) (a .list .now) (s .pre .0) (s .pre .1) (s .pre .2) _ _ _ _ (c .before .before .before .before .before .before .before .before .before .before .before .before .before .loop .inv .0) (omega (arith, c .before .before .before .before .before .before .before .before .before .before .before .before .loop-test .taken)) (c .before .before .before .before .before .before .before .before .before .before .before .edit-at .ensures) (c .before .before .before .before .before .before .turn .ensures)
     (λ z. absurd (omega (arith, c .if1 .taken))) refl
 
 loop-less : tie.Need-loop-less Inv-loop μ-loop
 loop-less c =
     let s = c .before .before .before .before .before .before .before .before .before .before .before .before .before .before .before .before .before in
     let a = s .args in
-    working-less (a .second .now) (a .room) (a .used) (a .list .now) (s .pre .0) (s .pre .1) (s .pre .2) _ _ _ _ (c .before .before .before .before .before .before .before .before .before .before .before .before .before .loop .inv .0) (c .before .before .before .before .before .before .before .before .before .before .before .before .loop-test .taken) (c .before .before .before .before .before .before .before .before .before .before .before .edit-at .ensures) (c .before .before .before .before .before .before .turn .ensures)
+    working-less (a .second .now) (a .room) (a .used) (a .list .now) (s .pre .0) (s .pre .1) (s .pre .2) _ _ _ _ (c .before .before .before .before .before .before .before .before .before .before .before .before .before .loop .inv .0) (omega (arith, c .before .before .before .before .before .before .before .before .before .before .before .before .loop-test .taken)) (c .before .before .before .before .before .before .before .before .before .before .before .edit-at .ensures) (c .before .before .before .before .before .before .turn .ensures)
 
 loop-again : tie.Need-loop-again Inv-loop μ-loop
 loop-again c =
     let s = c .before .before .before .before .before .before .before .before .before .before .before .before .before .before .before .before .before in
     let a = s .args in
     let l = c .before .before .before .before .before .before .before .before .before .before .before .before .before .loop .inv in
-    (working-next (a .second .now) (a .room) (a .used) (a .list .now) (s .pre .0) (s .pre .1) (s .pre .2) _ _ _ _ (l .0) (c .before .before .before .before .before .before .before .before .before .before .before .before .loop-test .taken) (c .before .before .before .before .before .before .before .before .before .before .before .edit-at .ensures) (c .before .before .before .before .before .before .turn .ensures) (c .if1 .left), search needs, search needs)
+    (working-next (a .second .now) (a .room) (a .used) (a .list .now) (s .pre .0) (s .pre .1) (s .pre .2) _ _ _ _ (l .0) (omega (arith, c .before .before .before .before .before .before .before .before .before .before .before .before .loop-test .taken)) (c .before .before .before .before .before .before .before .before .before .before .before .edit-at .ensures) (c .before .before .before .before .before .before .turn .ensures) (c .if1 .left), search needs, search needs)
 
 same-length-3 : tie.Need-same-length-3 Inv-loop μ-loop
 same-length-3 c = search needs
