@@ -4,9 +4,10 @@ use mathlib.Core.Bool.{Bool, true, false, cond, not, _&&_, _||_, or-comm}
 use mathlib.Core.List.{List, [], _∷_}
 use Prim.Native.Nat.{ℕ, zero, suc, _*_, _/_, _%_, _+_, _^_, _<_}
 use native.Mathlib.Decide.{ℕ-discrete}
-use native.Mathlib.Nat.{div-add-mod'}
+use native.Mathlib.Nat.{div-add-mod', mod-lt, zero-lt-suc}
+use native.Mathlib.Omega.{arith}
 use borrow.Author.Tests.{eq-eqb, ne-eqb, not-true, not-false}
-use lib.Bits.{bitOr}
+use lib.Bits.{bitOr, bitXor, xor-shr, xor-mod}
 use lib.Dec.{eqb}
 use lib.ListN.{length, getD, set, replicate}
 use lib.Seq.{getD-set-same, getD-set-other}
@@ -22,9 +23,36 @@ marked field v = bit (getD field (v / 64) 0) (v % 64)
 abbrev pub mark : List ℕ → ℕ → List ℕ
 mark field v = set field (v / 64) (bitOr (getD field (v / 64) 0) (2 ^ (v % 64)))
 
--- as the code makes it
+-- the field without a mark at v
+abbrev pub unmark : List ℕ → ℕ → List ℕ
+unmark field v = set field (v / 64) (bitXor (bitOr (getD field (v / 64) 0) (2 ^ (v % 64))) (2 ^ (v % 64)))
+
+-- as the code makes them
 pub mark-word : (field : List ℕ) (v : ℕ) {w : ℕ} → w ≡ bitOr (getD field (v / 64) 0) (2 ^ (v % 64)) → set field (v / 64) w ≡ mark field v
 mark-word field v e = rw e
+
+pub unmark-none : (field : List ℕ) (is : Bool) (v : ℕ) → not is ≡ true → field ≡ cond is (unmark field v) field
+unmark-none field is v e = rw (not-true is e)
+
+pub unmark-word : (field : List ℕ) (is : Bool) (v : ℕ) {w : ℕ} → not is ≡ false → w ≡ bitXor (bitOr (getD field (v / 64) 0) (2 ^ (v % 64))) (2 ^ (v % 64))
+    → set field (v / 64) w ≡ cond is (unmark field v) field
+unmark-word field is v n e = rw (not-false is n, e)
+
+-- ---- a bit of a word that is turned
+
+xor-digit : (x y : ℕ) → x < 2 → y < 2 → eqb (bitXor x y) 1 ≡ cond (eqb y 1) (not (eqb x 1)) (eqb x 1)
+xor-digit zero zero h l = refl
+xor-digit zero (suc zero) h l = refl
+xor-digit zero (suc (suc y)) h l = absurd (omega arith)
+xor-digit (suc zero) zero h l = refl
+xor-digit (suc zero) (suc zero) h l = refl
+xor-digit (suc zero) (suc (suc y)) h l = absurd (omega arith)
+xor-digit (suc (suc x)) y h l = absurd (omega arith)
+
+bit-xor : (v w k : ℕ) → bit (bitXor v w) k ≡ cond (bit w k) (not (bit v k)) (bit v k)
+bit-xor v w k =
+    let two : 0 < 2 = zero-lt-suc 1 in
+    rw (xor-shr v w k, xor-mod (v / 2 ^ k) (w / 2 ^ k) 1) (xor-digit (v / 2 ^ k % 2) (w / 2 ^ k % 2) (mod-lt _ two) (mod-lt _ two))
 
 -- ---- what a field means
 
@@ -50,20 +78,46 @@ same-word v w e = elim (ℕ-discrete v w) [
       ∙ sym (ne-eqb v w c)
 ]
 
--- With one more mark, one more was met.
+-- the word at v's place is another one: the other words say what they said
+at-word : (field : List ℕ) (w x v : ℕ) → w / 64 < length field → {b : Bool}
+    → (v / 64 ≡ w / 64 → bit x (v % 64) ≡ b) → ((v / 64 ≡ w / 64 → ⊥) → marked field v ≡ b) → marked (set field (w / 64) x) v ≡ b
+at-word field w x v h there other = elim (ℕ-discrete (v / 64) (w / 64)) [
+  | yes e ↦ ap (λ i. bit (getD (set field (w / 64) x) i 0) (v % 64)) e ∙ ap (λ z. bit z (v % 64)) (getD-set-same field (w / 64) x 0 h) ∙ there e
+  | no e ↦ ap (λ z. bit z (v % 64)) (getD-set-other field (w / 64) (v / 64) x 0 e) ∙ other e
+]
+
+apart : (v w : ℕ) → (v / 64 ≡ w / 64 → ⊥) → eqb v w ≡ false
+apart v w e = ne-eqb v w (λ q. e (ap (λ n. n / 64) q))
+
+-- With one more mark, one more is marked.
+pub marked-mark : (field : List ℕ) (w : ℕ) → w / 64 < length field → (v : ℕ) → marked (mark field w) v ≡ (eqb v w || marked field v)
+marked-mark field w h v =
+    let old : ℕ = getD field (w / 64) 0 in
+    at-word field w (bitOr old (2 ^ (w % 64))) v h
+    (λ e.
+    rw (bit-or old (2 ^ (w % 64)) (v % 64), bit-one (w % 64) (v % 64), same-word v w e)
+    (or-comm (bit old (v % 64)) (eqb v w) ∙ ap (λ i. eqb v w || bit (getD field i 0) (v % 64)) (sym e)))
+    (λ e. rw (apart v w e))
+
+-- .. and it was met
 pub field-mark : (field met : List ℕ) (w : ℕ) → w / 64 < length field → Field field met → Field (mark field w) (w ∷ met)
-field-mark field met w h c = record { same = same }
+field-mark field met w h c = record { same = λ v. marked-mark field w h v ∙ ap (λ b. eqb v w || b) (c .same v) }
+
+-- Without a mark, the others are as they were.
+pub marked-unmark : (field : List ℕ) (w : ℕ) → w / 64 < length field → (v : ℕ) → marked (unmark field w) v ≡ (not (eqb v w) && marked field v)
+marked-unmark field w h v =
+    let old : ℕ = getD field (w / 64) 0 in
+    at-word field w (bitXor (bitOr old (2 ^ (w % 64))) (2 ^ (w % 64))) v h
+    (λ e.
+    rw (bit-xor (bitOr old (2 ^ (w % 64))) (2 ^ (w % 64)) (v % 64), bit-or old (2 ^ (w % 64)) (v % 64), bit-one (w % 64) (v % 64), same-word v w e)
+    (off (bit old (v % 64)) (eqb v w) ∙ ap (λ i. not (eqb v w) && bit (getD field i 0) (v % 64)) (sym e)))
+    (λ e. rw (apart v w e))
   where
-    same : (v : ℕ) → marked (mark field w) v ≡ (eqb v w || elem v met)
-    same v = elim (ℕ-discrete (v / 64) (w / 64)) [
-      | yes e ↦
-          let one : getD (mark field w) (v / 64) 0 ≡ bitOr (getD field (w / 64) 0) (2 ^ (w % 64)) = rw e (getD-set-same field (w / 64) _ 0 h) in
-          let old : bit (getD field (w / 64) 0) (v % 64) ≡ elem v met = rw e at (c .same v) in
-          rw (one, bit-or (getD field (w / 64) 0) (2 ^ (w % 64)) (v % 64), bit-one (w % 64) (v % 64), old, same-word v w e) (or-comm (elem v met) (eqb v w))
-      | no e ↦
-          let one : getD (mark field w) (v / 64) 0 ≡ getD field (v / 64) 0 = getD-set-other field (w / 64) (v / 64) _ 0 e in
-          rw (one, c .same v, ne-eqb v w (λ q. e (ap (λ n. n / 64) q)))
-    ]
+    off : (a b : Bool) → cond b (not (a || b)) (a || b) ≡ (not b && a)
+    off true true = refl
+    off true false = refl
+    off false true = refl
+    off false false = refl
 
 -- ---- as the code notes a value
 
