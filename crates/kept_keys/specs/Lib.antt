@@ -3,4 +3,4 @@
 pub mod Moves
 
 -- The loops
--- pub mod Turns
+pub mod Turns

@@ -20,6 +20,7 @@ ghost use Rattle.paper.specs.Table.{proper};
 ghost use Rattle.paper.specs.Tokens.{tokOf, toks};
 ghost use Rattle.paper.specs.Rules.{ofTable};
 ghost use Rattle.paper.specs.Judgement.{isId, isRef};
+ghost use Rattle.kept_keys.specs.Turns.{idsIn, refsIn};
 ghost use Rattle.kept_keys.specs.Moves.{raised, lowered, Gone, Come, valueHere, Long, Enough, Room};
 
 // So many values there are, each with a count.
@@ -76,4 +77,36 @@ fn put_in(table: &[u64], at: Walk, t: u32, field: &mut [u64], counts: &mut [u16]
     let met = note(field, is_id(table, at.element, at.attribute), v);
     raise(counts, is_reference(table, at.element, at.attribute), v);
     !met
+}
+
+// The tokens from the walk up to the end go.
+fn leave(table: &[u64], doc: &[u32], end: usize, from: Walk, field: &mut [u64], counts: &mut [u16])
+    requires { ⌜ (proper (now table) ≡ true) × (end ≤ length (now doc)) ⌝ }
+    requires { ⌜ Long (now field) (now counts) × Enough (now counts) (refsIn (now table) (now doc) end from) ⌝ }
+    ensures { λ _. ⌜ Gone (now (field .entry)) (now (counts .entry)) (idsIn (now (table .entry)) (now (doc .entry)) end from) (refsIn (now (table .entry)) (now (doc .entry)) end from) (now (field .exit)) (now (counts .exit)) ⌝ }
+{
+    let mut at = from;
+    while at.place < end {
+        let i = at.place;
+        let t = doc[i];
+        take_out(table, at, t, field, counts);
+        at = pass(at, t);
+    }
+}
+
+// They come. The answer: "no coming ID was there or comes twice".
+fn enter(table: &[u64], doc: &[u32], end: usize, from: Walk, field: &mut [u64], counts: &mut [u16]) -> bool
+    requires { ⌜ (proper (now table) ≡ true) × (end ≤ length (now doc)) ⌝ }
+    requires { ⌜ Long (now field) (now counts) × Room (now counts) (refsIn (now table) (now doc) end from) ⌝ }
+    ensures { λ r. ⌜ Come (now (field .entry)) (now (counts .entry)) (idsIn (now (table .entry)) (now (doc .entry)) end from) (refsIn (now (table .entry)) (now (doc .entry)) end from) (now (field .exit)) (now (counts .exit)) r ⌝ }
+{
+    let mut at = from;
+    let mut fresh = true;
+    while at.place < end {
+        let i = at.place;
+        let t = doc[i];
+        fresh = fresh & put_in(table, at, t, field, counts);
+        at = pass(at, t);
+    }
+    fresh
 }
