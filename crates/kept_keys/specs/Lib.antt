@@ -4,3 +4,5 @@ pub mod Moves
 
 -- The loops
 pub mod Turns
+-- What is an ID, or is referred to no more
+pub mod Settled

@@ -21,6 +21,7 @@ ghost use Rattle.paper.specs.Tokens.{tokOf, toks};
 ghost use Rattle.paper.specs.Rules.{ofTable};
 ghost use Rattle.paper.specs.Judgement.{isId, isRef};
 ghost use Rattle.kept_keys.specs.Turns.{idsIn, refsIn};
+ghost use Rattle.kept_keys.specs.Settled.{ofKind, settledHere, settledIn};
 ghost use Rattle.kept_keys.specs.Moves.{raised, lowered, Gone, Come, valueHere, Long, Enough, Room};
 
 // So many values there are, each with a count.
@@ -109,4 +110,59 @@ fn enter(table: &[u64], doc: &[u32], end: usize, from: Walk, field: &mut [u64], 
         at = pass(at, t);
     }
     fresh
+}
+
+// The values of the element's attribute are IDs, or, as asked, references.
+fn is_of(table: &[u64], ids: bool, element: u32, attribute: u32) -> bool
+    requires { ⌜ proper (now table) ≡ true ⌝ }
+    ensures { λ r. ⌜ r ≡ ofKind ids (ofTable (now (table .entry))) element attribute ⌝ }
+{
+    if ids {
+        return is_id(table, element, attribute);
+    }
+    is_reference(table, element, attribute)
+}
+
+// The value of a token, if it is one of the kind, is an ID, or is referred to no more.
+fn is_settled(table: &[u64], ids: bool, at: Walk, t: u32, field: &[u64], counts: &[u16]) -> bool
+    requires { ⌜ (proper (now table) ≡ true) × Long (now field) (now counts) ⌝ }
+    ensures { λ r. ⌜ r ≡ settledHere (now (table .entry)) ids at t (now (field .entry)) (now (counts .entry)) ⌝ }
+{
+    if !is_value(t) {
+        return true;
+    }
+    if !is_of(table, ids, at.element, at.attribute) {
+        return true;
+    }
+    let v = number(t);
+    if is_marked(field, v) {
+        return true;
+    }
+    let i = v as usize;
+    counts[i] == 0
+}
+
+// All of them are, from the walk up to the end.
+fn are_settled(
+    table: &[u64],
+    ids: bool,
+    doc: &[u32],
+    end: usize,
+    from: Walk,
+    field: &[u64],
+    counts: &[u16],
+) -> bool
+    requires { ⌜ (proper (now table) ≡ true) × (end ≤ length (now doc)) × Long (now field) (now counts) ⌝ }
+    ensures { λ r. ⌜ r ≡ settledIn (now (table .entry)) ids (now (doc .entry)) end from (now (field .entry)) (now (counts .entry)) ⌝ }
+{
+    let mut at = from;
+    while at.place < end {
+        let i = at.place;
+        let t = doc[i];
+        if !is_settled(table, ids, at, t, field, counts) {
+            return false;
+        }
+        at = pass(at, t);
+    }
+    true
 }
