@@ -78,7 +78,7 @@ gone-none field counts = record { marks = λ v. refl; tells = λ v. omega arith 
 pub come-none : (field counts : List ℕ) → Come field counts [] [] field counts true
 come-none field counts = record { marks = λ v. refl; tells = λ v. omega arith; told = refl }
 
-elem-append : (v : ℕ) (l m : List ℕ) → elem v (l ++ m) ≡ (elem v l || elem v m)
+pub elem-append : (v : ℕ) (l m : List ℕ) → elem v (l ++ m) ≡ (elem v l || elem v m)
 elem-append v [] m = refl
 elem-append v (x ∷ l) m = go (eqb v x) (elem-append v l m)
   where
@@ -158,6 +158,25 @@ pub record Enough (counts refs : List ℕ) : Type 0 where
 
 pub record Room (counts refs : List ℕ) : Type 0 where
   pub each : (v : ℕ) → getD counts v 0 + times v refs < mostValues
+
+-- .. once those that go are gone
+pub record Fits (counts gone come : List ℕ) : Type 0 where
+  pub each : (v : ℕ) → getD counts v 0 + times v come < mostValues + times v gone
+
+-- some go, and then others come. r: no ID that came was there still, or came twice
+pub record Exchanged (field counts ids refs ids′ refs′ field′ counts′ : List ℕ) (r : Bool) : Type 0 where
+  pub fieldBetween : List ℕ
+  pub countsBetween : List ℕ
+  pub gone : Gone field counts ids refs fieldBetween countsBetween
+  pub come : Come fieldBetween countsBetween ids′ refs′ field′ counts′ r
+
+module _ {field counts ids refs field₁ counts₁ : List ℕ} (g : Gone field counts ids refs field₁ counts₁) {refs′ : List ℕ} where
+  pub exchange-room : Fits counts refs refs′ → Room counts₁ refs′
+  exchange-room f = record { each = λ v. omega (arith, f .each v, g .tells v) }
+
+  pub exchange-both : {ids′ field₂ counts₂ : List ℕ} {r : Bool} → Come field₁ counts₁ ids′ refs′ field₂ counts₂ r
+      → Exchanged field counts ids refs ids′ refs′ field₂ counts₂ r
+  exchange-both {ids′} {field₂} {counts₂} {r} k = record { fieldBetween = field₁; countsBetween = counts₁; gone = g; come = k }
 
 -- one value that goes, or comes, where b holds
 module _ (field counts : List ℕ) (v : ℕ) where

@@ -40,6 +40,17 @@ settledHere table ids at t field counts = all (settled field counts) (valueHere 
 abbrev pub settledIn : (table : List ℕ) → Bool → (doc : List ℕ) → ℕ → Walk → (field counts : List ℕ) → Bool
 settledIn table ids doc end w field counts = all (settled field counts) (passing (ofKind ids (ofTable table)) doc end w)
 
+-- the IDs that went and the references that came are
+abbrev pub bothSettled : (table doc : List ℕ) → ℕ → (new : List ℕ) → ℕ → Walk → (field counts : List ℕ) → Bool
+bothSettled table doc gone new come w field counts = settledIn table true doc gone w field counts && settledIn table false new come w field counts
+
+module _ (a b : Bool) {s : Bool} (e : s ≡ a) where
+  pub settled-not : not s ≡ true → false ≡ (a && b)
+  settled-not n = ap (λ z. z && b) (sym (not-true s n) ∙ e)
+
+  pub settled-both : not s ≡ false → {t : Bool} → t ≡ b → t ≡ (a && b)
+  settled-both n {t} f = f ∙ ap (λ z. z && b) (sym (not-false s n) ∙ e)
+
 -- ---- a token
 
 module _ (table : List ℕ) (ids : Bool) (at : Walk) (t : ℕ) (field counts : List ℕ) {y : Bool} (ey : y ≡ valueTok (tokOf t)) where

@@ -16,13 +16,15 @@ ghost use mathlib.Core.Path.{_≡_};
 ghost use mathlib.Core.Bool.{true};
 ghost use Prim.Native.Nat.{_+_, _-_, _/_, _^_, _≤_, _<_};
 ghost use lib.ListN.{length, take, getD};
+ghost use Rattle.paper.specs.Basics.{mostTokens};
 ghost use Rattle.paper.specs.Table.{proper};
 ghost use Rattle.paper.specs.Tokens.{tokOf, toks};
 ghost use Rattle.paper.specs.Rules.{ofTable};
 ghost use Rattle.paper.specs.Judgement.{isId, isRef};
+ghost use Rattle.kept_keys.specs.Follow.{Keeps, Change, Followed, Empty};
 ghost use Rattle.kept_keys.specs.Turns.{idsIn, refsIn};
-ghost use Rattle.kept_keys.specs.Settled.{ofKind, settledHere, settledIn};
-ghost use Rattle.kept_keys.specs.Moves.{raised, lowered, Gone, Come, valueHere, Long, Enough, Room};
+ghost use Rattle.kept_keys.specs.Settled.{ofKind, settledHere, settledIn, bothSettled};
+ghost use Rattle.kept_keys.specs.Moves.{raised, lowered, Gone, Come, valueHere, Long, Enough, Room, Fits, Exchanged};
 
 // So many values there are, each with a count.
 pub const VALUES: usize = 65536;
@@ -96,7 +98,14 @@ fn leave(table: &[u64], doc: &[u32], end: usize, from: Walk, field: &mut [u64], 
 }
 
 // They come. The answer: "no coming ID was there or comes twice".
-fn enter(table: &[u64], doc: &[u32], end: usize, from: Walk, field: &mut [u64], counts: &mut [u16]) -> bool
+fn enter(
+    table: &[u64],
+    doc: &[u32],
+    end: usize,
+    from: Walk,
+    field: &mut [u64],
+    counts: &mut [u16],
+) -> bool
     requires { ⌜ (proper (now table) ≡ true) × (end ≤ length (now doc)) ⌝ }
     requires { ⌜ Long (now field) (now counts) × Room (now counts) (refsIn (now table) (now doc) end from) ⌝ }
     ensures { λ r. ⌜ Come (now (field .entry)) (now (counts .entry)) (idsIn (now (table .entry)) (now (doc .entry)) end from) (refsIn (now (table .entry)) (now (doc .entry)) end from) (now (field .exit)) (now (counts .exit)) r ⌝ }
@@ -165,4 +174,86 @@ fn are_settled(
         at = pass(at, t);
     }
     true
+}
+
+// The tokens of doc from the walk up to `gone` go, and those of new up to `come` come. The answer: "no coming ID was there or comes twice".
+fn exchange(
+    table: &[u64],
+    doc: &[u32],
+    gone: usize,
+    new: &[u32],
+    come: usize,
+    from: Walk,
+    field: &mut [u64],
+    counts: &mut [u16],
+) -> bool
+    requires { ⌜ (proper (now table) ≡ true) × (gone ≤ length (now doc)) × (come ≤ length (now new)) ⌝ }
+    requires { ⌜ Long (now field) (now counts) × Enough (now counts) (refsIn (now table) (now doc) gone from) × Fits (now counts) (refsIn (now table) (now doc) gone from) (refsIn (now table) (now new) come from) ⌝ }
+    ensures { λ r. ⌜ Exchanged (now (field .entry)) (now (counts .entry)) (idsIn (now (table .entry)) (now (doc .entry)) gone from) (refsIn (now (table .entry)) (now (doc .entry)) gone from) (idsIn (now (table .entry)) (now (new .entry)) come from) (refsIn (now (table .entry)) (now (new .entry)) come from) (now (field .exit)) (now (counts .exit)) r ⌝ }
+{
+    leave(table, doc, gone, from, field, counts);
+    enter(table, new, come, from, field, counts)
+}
+
+// "Each coming reference has an ID, and no ID that went alone is still referred to."
+fn none_owed(
+    table: &[u64],
+    doc: &[u32],
+    gone: usize,
+    new: &[u32],
+    come: usize,
+    from: Walk,
+    field: &[u64],
+    counts: &[u16],
+) -> bool
+    requires { ⌜ (proper (now table) ≡ true) × (gone ≤ length (now doc)) × (come ≤ length (now new)) × Long (now field) (now counts) ⌝ }
+    ensures { λ r. ⌜ r ≡ bothSettled (now (table .entry)) (now (doc .entry)) gone (now (new .entry)) come from (now (field .entry)) (now (counts .entry)) ⌝ }
+{
+    if !are_settled(table, true, doc, gone, from, field, counts) {
+        return false;
+    }
+    are_settled(table, false, new, come, from, field, counts)
+}
+
+// The IDs and references of a document, in a field and counts that are empty.
+pub fn learn(table: &[u64], doc: &[u32], field: &mut [u64], counts: &mut [u16])
+    requires { ⌜ (proper (now table) ≡ true) × (length (now doc) ≤ mostTokens) × Empty (now field) (now counts) ⌝ }
+    ensures { λ _. ⌜ Keeps (now (table .entry)) (now (field .exit)) (now (counts .exit)) (toks (now (doc .entry))) ⌝ }
+{
+    let front = Walk {
+        place: 0,
+        element: 0,
+        attribute: 0,
+    };
+    enter(table, doc, doc.len(), front, field, counts);
+}
+
+// "Where the document before has no fault of 11 or 12, the edited one has none exactly if no coming ID was there or comes twice, each
+// coming reference has an ID, and no ID that went alone is still referred to": doc became new, `coming` tokens came at a place. The
+// element is the name of the one at the edit's place; only an attribute is read by it. The answer: the edited document has no such fault.
+pub fn follow(
+    table: &[u64],
+    doc: &[u32],
+    new: &[u32],
+    at: usize,
+    coming: usize,
+    element: u32,
+    field: &mut [u64],
+    counts: &mut [u16],
+) -> bool
+    requires { ⌜ (proper (now table) ≡ true) × Keeps (now table) (now field) (now counts) (toks (now doc)) ⌝ }
+    requires { ⌜ Change (ofTable (now table)) (now doc) (now new) at coming element ⌝ }
+    ensures { λ r. ⌜ Followed (now (table .entry)) (now (new .entry)) (now (field .exit)) (now (counts .exit)) r ⌝ }
+{
+    let from = Walk {
+        place: at,
+        element,
+        attribute: 0,
+    };
+    let gone = at + (doc.len() + coming - new.len());
+    let come = at + coming;
+    if !exchange(table, doc, gone, new, come, from, field, counts) {
+        return false;
+    }
+    none_owed(table, doc, gone, new, come, from, field, counts)
 }

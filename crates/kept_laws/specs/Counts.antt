@@ -3,9 +3,10 @@ use mathlib.Core.Path.{_≡_, refl, sym}
 use mathlib.Core.Logic.{_↔_, inl, inr}
 use mathlib.Core.Bool.{Bool, true, false, cond, _||_}
 use mathlib.Core.List.{List, [], _∷_, _++_}
-use Prim.Native.Nat.{ℕ, suc, _+_}
+use Prim.Native.Nat.{ℕ, suc, _+_, _≤_}
 use native.Mathlib.Omega.{arith}
 use lib.Dec.{eqb, ltb}
+use lib.ListN.{length}
 use borrow.Author.Tests.{lt-ltb}
 use Rattle.paper.specs.Basics.{elem, distinct}
 use Rattle.kept_laws.specs.Lists.{In, in-append, distinct-append}
@@ -23,6 +24,15 @@ times-append v (x ∷ l) m = go (eqb v x) (times-append v l m)
         → cond b (suc (times v (l ++ m))) (times v (l ++ m)) ≡ cond b (suc (times v l)) (times v l) + times v m
     go true h = omega arith
     go false h = h
+
+-- .. no more often than there are values
+pub times-few : (v : ℕ) (l : List ℕ) → times v l ≤ length l
+times-few v [] = omega arith
+times-few v (x ∷ l) = go (eqb v x) (times-few v l)
+  where
+    go : (b : Bool) → times v l ≤ length l → cond b (suc (times v l)) (times v l) ≤ suc (length l)
+    go true h = omega arith
+    go false h = omega arith
 
 -- a value is in the list exactly if it is there at least once
 pub times-elem : (v : ℕ) (l : List ℕ) → elem v l ≡ ltb 0 (times v l)
