@@ -1,7 +1,7 @@
 -- What is kept of a document's IDs and references; an edit of a document without a fault in them takes it along, and tells whether the
 -- edited document has one. Assumes nothing.
-use mathlib.Core.Path.{_≡_, refl, sym, ap, ap₂, subst, _∙_}
-use mathlib.Core.Bool.{Bool, true, false, not, _&&_, _||_, or-false, and-eq-true-iff}
+use mathlib.Core.Path.{_≡_, refl, sym, ap, ap₂, _∙_}
+use mathlib.Core.Bool.{Bool, true, false, not, _&&_, _||_, and-eq-true-iff}
 use mathlib.Core.List.{List, [], _∷_, _++_}
 use mathlib.Core.Logic.{_↔_}
 use Prim.Native.Nat.{ℕ, zero, suc, _+_, _-_, _^_, _≤_, _<_}
@@ -9,8 +9,8 @@ use native.Mathlib.Nat.{zero-add, suc-add}
 use native.Mathlib.Omega.{arith}
 use borrow.Author.Tests.{eqb-true, eq-eqb, not-true, not-false}
 use lib.Dec.{eqb}
-use lib.ListN.{length, take, drop, getD, replicate, length-map, length-replicate, length-append, length-drop}
-use lib.Seq.{take-nil, take-at, take-length, length-take-le}
+use lib.ListN.{length, take, drop, getD, length-map, length-append, length-drop}
+use lib.Seq.{take-nil, take-at, length-take-le}
 use Rattle.basic_laws.specs.Bools.{clash, both, same-test}
 use Rattle.paper.specs.Basics.{mostTokens, all, elem, distinct}
 use Rattle.paper.specs.declared.Tok.{Tok}
@@ -23,17 +23,17 @@ use Rattle.shape_laws.specs.Bridge.{toks-take}
 use Rattle.shape_laws.specs.Five.{Allowed, allowed-within}
 use Rattle.back_laws.specs.Splices.{splice-drop}
 use Rattle.paper_laws.specs.Basics.{all-append}
-use Rattle.field.specs.Field.{marked, field-empty}
+use Rattle.field.specs.Field.{marked}
 use Rattle.key_walk.specs.declared.Walk.{Walk}
 use Rattle.kept_laws.specs.Found.{found, found-few}
-use Rattle.kept_laws.specs.Lists.{In, newIn, new-same}
-use Rattle.kept_laws.specs.Counts.{times, times-append, times-few, times-stays, in-stays}
+use Rattle.kept_laws.specs.Lists.{newIn, new-same}
+use Rattle.kept_laws.specs.Counts.{times, times-few, times-stays, in-stays}
 use Rattle.kept_laws.specs.Split.{ahead, goes, comes, stays, old-values, new-values}
 use Rattle.kept_laws.specs.Kept.{keys-iff}
 use Rattle.kept_laws.specs.Read.{Reads}
-use Rattle.kept_laws.specs.Walks.{Walked, WalkedBy, keys-walked}
-use Rattle.kept_keys.specs.Moves.{fieldWords, mostValues, Come, elem-append, Long, Enough, Room, Fits, Exchanged}
-use Rattle.kept_keys.specs.Turns.{idsIn, refsIn}
+use Rattle.kept_laws.specs.Walks.{WalkedBy, keys-walked}
+use Rattle.key_moves.specs.Moves.{elem-append, Long, Enough, Fits, Exchanged}
+use Rattle.key_moves.specs.Turns.{idsIn, refsIn}
 use Rattle.kept_keys.specs.Settled.{settled, bothSettled}
 
 -- "Keep the field of IDs, and how many references each value has": the field marks exactly the IDs of d, and the counts are how many
@@ -264,44 +264,3 @@ module _ (table doc new : List ℕ) (at coming element : ℕ) (c : Change (ofTab
 
         pub follow-rest : not y ≡ false → {z : Bool} → z ≡ bothSettled table doc (at + cut) new (at + coming) from field₂ counts₂ → Followed table new field₂ counts₂ z
         follow-rest n {z} e = followed (sym (ap (λ w. w && z) (not-false y n)) ∙ follow-told e)
-
--- ---- a document learned
-
--- nothing is marked, and nothing is counted
-pub record Empty (field counts : List ℕ) : Type 0 where
-  pub long : Long field counts
-  pub none-marked : (v : ℕ) → marked field v ≡ false
-  pub none-counted : (v : ℕ) → getD counts v 0 ≡ 0
-
-module _ (table doc : List ℕ) {field counts : List ℕ} (z : Empty field counts) where
-  whole : (is : ℕ → ℕ → Bool) → found is 0 0 (drop 0 (toks (take (length doc) doc))) ≡ found is 0 0 (toks doc)
-  whole is = ap (λ l. found is 0 0 (toks l)) (take-length doc)
-
-  pub learn-room : length doc ≤ mostTokens → Room counts (refsIn table doc (length doc) (fromName 0 0))
-  learn-room h = record {
-    each = λ v.
-        let l : List ℕ = found (isRef (ofTable table)) 0 0 (toks doc) in
-        omega (arith, z .none-counted v, ap (times v) (whole (isRef (ofTable table))), times-few v l, found-few (isRef (ofTable table)) 0 0 (toks doc), length-map doc tokOf);
-  }
-
-  pub learn-keeps : {field′ counts′ : List ℕ} {r : Bool}
-      → Come field counts (idsIn table doc (length doc) (fromName 0 0)) (refsIn table doc (length doc) (fromName 0 0)) field′ counts′ r
-      → length field′ ≡ length field → length counts′ ≡ length counts → Keeps table field′ counts′ (toks doc)
-  learn-keeps k kf kc = record {
-    long = record { words = kf ∙ z .long .words; values = kc ∙ z .long .values };
-    ids = λ v. k .marks v ∙ ap₂ _||_ (ap (elem v) (whole (isId (ofTable table)))) (z .none-marked v) ∙ or-false (elem v (found (isId (ofTable table)) 0 0 (toks doc)));
-    refs = λ v. k .tells v ∙ ap₂ _+_ (z .none-counted v) (ap (times v) (whole (isRef (ofTable table)))) ∙ zero-add (times v (found (isRef (ofTable table)) 0 0 (toks doc)));
-  }
-
--- a field and counts of zeros
-pub empty-zeros : Empty (replicate fieldWords 0) (replicate mostValues 0)
-empty-zeros = record {
-  long = record { words = length-replicate {A = ℕ} fieldWords 0; values = length-replicate {A = ℕ} mostValues 0 };
-  none-marked = λ v. field-empty fieldWords .same v;
-  none-counted = λ v. zero-at mostValues v;
-}
-  where
-    zero-at : (n i : ℕ) → _≡_ {A = ℕ} (getD (replicate n 0) i 0) 0
-    zero-at zero i = refl
-    zero-at (suc n) zero = refl
-    zero-at (suc n) (suc i) = zero-at n i

@@ -1,7 +1,7 @@
 -- Values that are IDs, or are referred to no more. Assumes nothing.
 use mathlib.Core.Path.{_≡_, refl, sym, ap, ap₂, _∙_}
 use mathlib.Core.Bool.{Bool, true, false, cond, not, _&&_, _||_, and-true}
-use mathlib.Core.List.{List, [], _∷_, _++_}
+use mathlib.Core.List.{List, [], _∷_}
 use Prim.Native.Nat.{ℕ, _/_, _≤_, _<_}
 use borrow.Author.Tests.{not-true, not-false}
 use lib.Dec.{eqb}
@@ -15,8 +15,8 @@ use Rattle.tokens.specs.Sorts.{valueTok}
 use Rattle.field.specs.Field.{marked}
 use Rattle.key_walk.specs.declared.Walk.{Walk}
 use Rattle.key_walk.specs.Walk.{behind}
-use Rattle.kept_keys.specs.Moves.{valueHere}
-use Rattle.kept_keys.specs.Turns.{passing, passing-step, passing-none}
+use Rattle.key_moves.specs.Moves.{valueHere}
+use Rattle.key_moves.specs.Turns.{passing, passing-step, passing-none}
 
 -- IDs, or references
 abbrev pub ofKind : Bool → Rules → ℕ → ℕ → Bool

@@ -1,6 +1,6 @@
 -- "Where the document before has no fault of 11 or 12, the edited one has none exactly if no coming ID was there or comes twice, each
 -- coming reference has an ID, and no ID that went alone is still referred to." Assumes nothing.
-use mathlib.Core.Path.{_≡_, refl, ap}
+use mathlib.Core.Path.{_≡_, refl}
 use mathlib.Core.Logic.{_↔_, _⊎_, inl, inr, Iff·trans, Iff·and}
 use mathlib.Core.Bool.{Bool, true, false, cond, not, _&&_, _||_}
 use mathlib.Core.List.{List, [], _∷_, _++_, map}

@@ -15,7 +15,7 @@ use Rattle.paper.specs.declared.Tok.the-variants.{Start, End, Text, Attr, Value
 use Rattle.paper.specs.Basics.{mostTokens, between}
 use Rattle.paper.specs.Tokens.{isStart, itemSize, values, slot, held}
 use Rattle.paper.specs.Shape.{Body, isElement}
-use Rattle.paper.specs.Edits.{isText, goodItem, attrWith, someValues, goodPiece, opens, opensOrEnds, atHead, attrNumber, attrAt, attrCut, goodPlace, spliceAt, spliceCut, coming}
+use Rattle.paper.specs.Edits.{isText, goodItem, attrWith, someValues, goodPiece, opens, atHead, attrNumber, attrAt, attrCut, goodPlace, spliceAt, spliceCut, coming}
 use Rattle.shape_laws.specs.Keep.{element-parts}
 use Rattle.shape_laws.specs.Attrs.{Put, gone, given}
 use Rattle.shape_laws.specs.Five.{Whole, element, one-text}

@@ -1,5 +1,5 @@
 -- `kept_keys::is_settled` meets its contract. Assumes nothing.
-use Rattle.kept_keys.specs.Moves.{bit-of, count-of}
+use Rattle.key_moves.specs.Moves.{bit-of, count-of}
 use Rattle.kept_keys.specs.Settled.{settled-none, settled-other, settled-id, settled-count}
 use borrow.Author.Needs.{needs}
 use Rattle.kept_keys.proofs.is_settled.Statement.{statement}

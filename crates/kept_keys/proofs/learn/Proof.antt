@@ -1,5 +1,5 @@
 -- `kept_keys::learn` meets its contract. Assumes nothing.
-use Rattle.kept_keys.specs.Follow.{learn-room, learn-keeps}
+use Rattle.kept_keys.specs.Learn.{learn-room, learn-keeps}
 use borrow.Author.Needs.{needs}
 use Rattle.kept_keys.proofs.learn.Statement.{statement}
 use Rattle.kept_keys.proofs.learn.Tie as tie

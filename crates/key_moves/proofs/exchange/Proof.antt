@@ -1,8 +1,8 @@
--- `kept_keys::exchange` meets its contract. Assumes nothing.
-use Rattle.kept_keys.specs.Moves.{exchange-room, exchange-both}
+-- `key_moves::exchange` meets its contract. Assumes nothing.
+use Rattle.key_moves.specs.Moves.{exchange-room, exchange-both}
 use borrow.Author.Needs.{needs}
-use Rattle.kept_keys.proofs.exchange.Statement.{statement}
-use Rattle.kept_keys.proofs.exchange.Tie as tie
+use Rattle.key_moves.proofs.exchange.Statement.{statement}
+use Rattle.key_moves.proofs.exchange.Tie as tie
 
 leave-requires : tie.Need-leave-requires
 leave-requires c κs = search needs

@@ -1,24 +1,19 @@
 -- The loops over the tokens that go and those that come. Assumes nothing.
-use mathlib.Core.Path.{_≡_, refl, sym, ap, ap₂, subst, _∙_}
-use mathlib.Core.Bool.{Bool, true, false, cond, not, _&&_, _||_, and-true}
-use mathlib.Core.List.{List, [], _∷_, _++_, map}
-use Prim.Native.Nat.{ℕ, suc, _+_, _-_, _/_, _≤_, _<_}
+use mathlib.Core.Path.{_≡_, refl, sym, ap, subst, _∙_}
+use mathlib.Core.Bool.{Bool, true, false, _&&_, and-true}
+use mathlib.Core.List.{List, [], _++_, map}
+use Prim.Native.Nat.{ℕ, _+_, _-_, _/_, _≤_, _<_}
 use native.Mathlib.Omega.{arith}
-use borrow.Author.Tests.{eq-eqb, ne-eqb, not-true, not-false}
-use lib.Dec.{eqb}
 use lib.ListN.{length, take, drop, getD}
-use Rattle.paper.specs.Basics.{all, elem, consIf}
-use Rattle.paper.specs.declared.Tok.{Tok}
+use Rattle.paper.specs.Basics.{consIf}
 use Rattle.paper.specs.Tokens.{tokOf, toks}
-use Rattle.paper.specs.Rules.{Rules, ofTable}
+use Rattle.paper.specs.Rules.{ofTable}
 use Rattle.paper.specs.Judgement.{isId, isRef, valueIn}
-use Rattle.tokens.specs.Sorts.{valueTok}
-use Rattle.field.specs.Field.{marked}
 use Rattle.key_walk.specs.declared.Walk.{Walk}
 use Rattle.key_walk.specs.Walk.{behind, left, valueOf, left-step, left-none}
 use Rattle.kept_laws.specs.Found.{found, found-values}
 use Rattle.kept_laws.specs.Counts.{times, times-append}
-use Rattle.kept_keys.specs.Moves.{Gone, gone-none, gone-both, Come, come-none, come-both, valueHere, Long, Enough, Room}
+use Rattle.key_moves.specs.Moves.{Gone, gone-none, gone-both, Come, come-none, come-both, valueHere, Long, Enough, Room}
 
 -- ---- the values from a walk up to an end
 
