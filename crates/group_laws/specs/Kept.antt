@@ -20,7 +20,7 @@ use Rattle.shape_laws.specs.Shaped.{shaped}
 use Rattle.shape_laws.specs.Written.{written-length}
 use Rattle.paper.specs.Lists.{Split, fault, edits, splitList}
 use Rattle.list_laws.specs.Exactly.{four-or-five}
-use Rattle.group_laws.specs.Groups.{Work, worked, GroupOutcome, notBegun, verdict, copied, stopped, begun, groupBy, group}
+use Rattle.paper.specs.Groups.{Work, worked, GroupOutcome, notBegun, verdict, copied, stopped, begun, groupBy, group}
 use Rattle.group_laws.specs.Worked.{longest-most}
 
 -- ---- by the cases of the definition

@@ -1,7 +1,4 @@
--- A group of edits (item 9): what it is, and its laws.
--- The definition, and the small shade by computing
-pub mod Groups
-pub mod GroupExamples
+-- Laws of a group of edits (item 9).
 -- How the edits are worked: all in form, or up to the first that is not
 pub mod Worked
 -- The second buffer: the last document reached, 0 up to the longest

@@ -13,12 +13,12 @@ use Rattle.paper.specs.Tokens.{toks}
 use Rattle.paper.specs.Shape.{shapeOf}
 use Rattle.paper.specs.Rules.{ofTable}
 use Rattle.paper.specs.Judgement.{Answer, judge, whole, checking, check}
-use Rattle.paper.specs.Answers.{Answers, checkAnswers}
+use Rattle.paper.specs.Answers.{Answers, checkAnswers, groupAnswers}
 use Rattle.paper.specs.Edits.{Request, formFault}
 use Rattle.answer_laws.specs.Check.{check-answers}
 use Rattle.answer_laws.specs.Edit.{form-number}
 use Rattle.answer_laws.specs.Judged.{each}
-use Rattle.group_laws.specs.Groups.{groupAnswers, after, Work, GroupOutcome, verdict, copied, stopped, begun, group}
+use Rattle.paper.specs.Groups.{after, Work, GroupOutcome, verdict, copied, stopped, begun, group}
 use Rattle.group_laws.specs.Worked.{Refused, Reached, worked-told, shape-alone, shape-after}
 use Rattle.group_laws.specs.Kept.{Begins, by-ways}
 

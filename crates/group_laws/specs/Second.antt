@@ -13,7 +13,7 @@ use lib.Dec.{eqb}
 use lib.ListN.{length, drop, replicate}
 use lib.Seq.{drop-drop, drop-append-add}
 use Rattle.paper.specs.Edits.{Request, edited, formFault, written}
-use Rattle.group_laws.specs.Groups.{Work, worked, reachedIn, after, AllInForm}
+use Rattle.paper.specs.Groups.{Work, worked, reachedIn, after, AllInForm}
 
 -- ---- one document written over another
 

@@ -16,7 +16,7 @@ use Rattle.paper.specs.Rules.{ofTable}
 use Rattle.paper.specs.Edits.{Request, edited, formFault}
 use Rattle.shape_laws.specs.EditJudged.{form-iff, asked-shape}
 use Rattle.shape_laws.specs.Shaped.{shaped}
-use Rattle.group_laws.specs.Groups.{Work, worked, after, AllInForm}
+use Rattle.paper.specs.Groups.{Work, worked, after, AllInForm}
 
 -- ---- a document in its buffer
 

@@ -20,7 +20,7 @@ use Rattle.paper.specs.Edits.{Request, written}
 use Rattle.paper.specs.Lists.{Split, fault, edits, splitList, faultOf}
 use Rattle.shape_laws.specs.Shaped.{shaped}
 use Rattle.shape_laws.specs.Written.{written-take, written-length, written-shape}
-use Rattle.group_laws.specs.Groups.{Work, worked, GroupOutcome, notBegun, verdict, reachedIn, begun, groupBy, group}
+use Rattle.paper.specs.Groups.{Work, worked, GroupOutcome, notBegun, verdict, reachedIn, begun, groupBy, group}
 use Rattle.group_laws.specs.Worked.{shape-alone, Reached, worked-told, longest-most, shape-after}
 use Rattle.group_laws.specs.Second.{grows}
 use Rattle.edit_list.specs.Left.{Whole, left-all}

@@ -17,7 +17,7 @@ ghost use Rattle.paper.specs.Shape.{shapeOf};
 ghost use Rattle.paper.specs.Table.{proper};
 ghost use Rattle.paper.specs.Rules.{ofTable};
 ghost use Rattle.paper.specs.Lists.{splitList, faultOf};
-ghost use Rattle.group_laws.specs.Groups.{groupBy, group};
+ghost use Rattle.paper.specs.Groups.{groupBy, group};
 ghost use Rattle.groups.specs.Outcomes.{outcomeOf, refusal};
 
 // A group's answer: number and place, "which edit it was, from 1 (else 0)", and the whole group's used length and change.

@@ -33,6 +33,10 @@ editAnswers = 0 ∷ 4 ∷ 5 ∷ 6 ∷ 7 ∷ 8 ∷ 9 ∷ 10 ∷ 11 ∷ 12 ∷ 13 
 abbrev pub listAnswers : List ℕ
 listAnswers = editAnswers
 
+-- Item 9: a check's numbers, and those of an edit's form: never 7, as a check does not
+abbrev pub groupAnswers : List ℕ
+groupAnswers = 5 ∷ 6 ∷ checkAnswers
+
 -- Item 12: "Refusals in order: 13, old table first; element not below both E is 6; new 16, [..]; buffer too short is 5."
 abbrev pub compareAnswers : List ℕ
 compareAnswers = 0 ∷ 5 ∷ 6 ∷ 13 ∷ 16 ∷ []

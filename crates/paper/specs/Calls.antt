@@ -8,6 +8,7 @@ use Rattle.paper.specs.Table.{translate}
 use Rattle.paper.specs.Judgement.{Answer, check}
 use Rattle.paper.specs.Edits.{Request, Outcome, edit}
 use Rattle.paper.specs.Lists.{Listed, editList}
+use Rattle.paper.specs.Groups.{GroupOutcome, group}
 use Rattle.paper.specs.Inclusion.{Compared, compare}
 use Rattle.paper.specs.Dtd.Imported.{Spot, import, names, spot}
 
@@ -34,6 +35,10 @@ Performs table buffer used q second o = o ≡ edit table buffer used q second
 -- the list of edits: what the last edit that was run came to, with no second buffer, and how many were done
 abbrev pub PerformsList : (table buffer : List ℕ) → (used : ℕ) → (list : List ℕ) → Listed Outcome → Type 0
 PerformsList table buffer used list o = o ≡ editList table buffer used list
+
+-- the group: number, place, used length, change in length, which edit was refused, the buffer and the second one
+abbrev pub PerformsGroup : (table buffer : List ℕ) → (used : ℕ) → (list second : List ℕ) → GroupOutcome → Type 0
+PerformsGroup table buffer used list second o = o ≡ group table buffer used list second
 
 -- the comparison: number, 1 for yes, length of the sequence that is lost, and the sequence buffer
 abbrev pub Compares : (old new : List ℕ) → (element : ℕ) → (buffer : List ℕ) → Compared → Type 0

@@ -29,6 +29,8 @@ pub mod TreeEdits
 pub mod Dtd
 -- Item 6: a list of edits
 pub mod Lists
+-- Item 9: a group of edits
+pub mod Groups
 -- Item 12: an element's content compared
 pub mod Inclusion
 -- "Answer numbers": which numbers a call gives, and what each call does
@@ -39,7 +41,8 @@ pub mod Program
 pub mod Open
 pub mod SmallShade
 pub mod Given
--- Items 2, 6 and 12, by computing
+-- Requests, by computing
 pub mod BackExamples
 pub mod ListExamples
+pub mod GroupExamples
 pub mod InclusionExamples

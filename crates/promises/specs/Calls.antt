@@ -8,8 +8,7 @@ use Rattle.paper.specs.Lists.{Listed}
 use Rattle.paper.specs.Inclusion.{Compared}
 use Rattle.paper.specs.Dtd.Imported.{Spot}
 use Rattle.paper.specs.Calls as paper
-use Rattle.group_laws.specs.Groups.{GroupOutcome}
-use Rattle.group_laws.specs.Groups as groups
+use Rattle.paper.specs.Groups.{GroupOutcome}
 
 -- what each is given, and an outcome: the answer and every place of lent memory after the call
 pub record Calls : Type 1 where
@@ -34,7 +33,7 @@ papers = record {
   Checks = paper.Checks;
   Performs = paper.Performs;
   PerformsList = paper.PerformsList;
-  PerformsGroup = groups.PerformsGroup;
+  PerformsGroup = paper.PerformsGroup;
   Compares = paper.Compares;
   Imports = paper.Imports;
   Names = paper.Names;
@@ -49,7 +48,7 @@ pub record Faithful (calls : Calls) : Type 0 where
   pub checks : (table buffer : List ℕ) (used : ℕ) (o : Answer) → calls .Checks table buffer used o → paper.Checks table buffer used o
   pub performs : (table buffer : List ℕ) (used : ℕ) (q : Request) (second : List ℕ) (o : Outcome) → calls .Performs table buffer used q second o → paper.Performs table buffer used q second o
   pub performs-list : (table buffer : List ℕ) (used : ℕ) (list : List ℕ) (o : Listed Outcome) → calls .PerformsList table buffer used list o → paper.PerformsList table buffer used list o
-  pub performs-group : (table buffer : List ℕ) (used : ℕ) (list second : List ℕ) (o : GroupOutcome) → calls .PerformsGroup table buffer used list second o → groups.PerformsGroup table buffer used list second o
+  pub performs-group : (table buffer : List ℕ) (used : ℕ) (list second : List ℕ) (o : GroupOutcome) → calls .PerformsGroup table buffer used list second o → paper.PerformsGroup table buffer used list second o
   pub compares : (old new : List ℕ) (e : ℕ) (buffer : List ℕ) (o : Compared) → calls .Compares old new e buffer o → paper.Compares old new e buffer o
   pub imports : (text buffer : List ℕ) (o : Counted) → calls .Imports text buffer o → paper.Imports text buffer o
   pub names : (text buffer : List ℕ) (o : Counted) → calls .Names text buffer o → paper.Names text buffer o

@@ -11,7 +11,7 @@ use Rattle.paper.specs.Judgement.{Answer}
 use Rattle.paper.specs.Back.{needs}
 use Rattle.paper.specs.Edits.{Request, Outcome, formFault}
 use Rattle.back_laws.specs.Sizes.{size-form, size-iff}
-use Rattle.group_laws.specs.Groups.{GroupOutcome, after}
+use Rattle.paper.specs.Groups.{GroupOutcome, after}
 use Rattle.promises.specs.Right.{InForm, Right}
 use Rattle.promises.specs.Groups.{FirstRefused, GroupRight, SameAs}
 

@@ -19,7 +19,7 @@ use Rattle.paper.specs.Validity.{ValidDocument}
 use Rattle.paper.specs.Edits.{Request, formFault, written}
 use Rattle.paper.specs.Lists.{edits, splitList}
 use Rattle.shape_laws.specs.Shaped.{shaped}
-use Rattle.group_laws.specs.Groups.{Work, worked, GroupOutcome, verdict, reachedIn, copied, stopped, begun, group, after, AllInForm}
+use Rattle.paper.specs.Groups.{Work, worked, GroupOutcome, verdict, reachedIn, copied, stopped, begun, group, after, AllInForm}
 use Rattle.group_laws.specs.Worked.{Refused, Reached, worked-told, not-both, longest-most, shape-alone, shape-after}
 use Rattle.group_laws.specs.Second.{Reaches, none-longer, one-as-long, second-told}
 use Rattle.group_laws.specs.Kept as laws

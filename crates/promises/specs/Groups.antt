@@ -16,8 +16,8 @@ use Rattle.paper.specs.Requests.{Request}
 use Rattle.paper.specs.Back.{needs}
 use Rattle.paper.specs.Edits.{Outcome, formFault, written}
 use Rattle.paper.specs.Lists.{fault, edits, splitList}
-use Rattle.paper.specs.Answers.{Answers}
-use Rattle.group_laws.specs.Groups.{GroupOutcome, notBegun, groupAnswers, after, AllInForm}
+use Rattle.paper.specs.Answers.{Answers, groupAnswers}
+use Rattle.paper.specs.Groups.{GroupOutcome, notBegun, after, AllInForm}
 use Rattle.promises.specs.Calls.{Calls}
 use Rattle.promises.specs.Statements.{Determinate, Translated}
 

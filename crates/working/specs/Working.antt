@@ -12,7 +12,7 @@ use Rattle.paper.specs.Shape.{shapeOf}
 use Rattle.paper.specs.Edits.{Request, edited, formFault, written}
 use Rattle.paper.specs.Lists.{edits, splitList, faultOf}
 use Rattle.shape_laws.specs.Written.{written-length, written-shape, written-take}
-use Rattle.group_laws.specs.Groups.{Work, worked, reachedIn}
+use Rattle.paper.specs.Groups.{Work, worked, reachedIn}
 use Rattle.group_laws.specs.Worked.{shape-alone, edited-fits, edited-shape}
 use Rattle.group_laws.specs.Second.{written-twice}
 use Rattle.edit_list.specs.declared.Edit.{Edit}

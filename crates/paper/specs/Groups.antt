@@ -6,15 +6,14 @@ use Prim.Native.Nat.{ℕ, suc, max}
 use lib.Dec.{leb, eqb}
 use lib.IntN.{ℤ, pos, _-ℤ_}
 use lib.ListN.{length, take}
 use Rattle.paper.specs.Tokens.{toks}
 use Rattle.paper.specs.Shape.{shapeOf}
 use Rattle.paper.specs.Table.{proper}
 use Rattle.paper.specs.Rules.{Rules, ofTable}
 use Rattle.paper.specs.Judgement.{Answer, judge, whole}
 use Rattle.paper.specs.Requests.{Request, edited}
 use Rattle.paper.specs.Edits.{formFault, written}
 use Rattle.paper.specs.Lists.{Split, fault, edits, splitList}
-use Rattle.paper.specs.Answers.{checkAnswers}
 
 -- ---- the edits, one after another
 
@@ -101,10 +100,6 @@ group table buffer used list second =
     (cond (shapeOf buffer used) (groupBy (ofTable table) buffer used second (splitList list)) (notBegun buffer used second 4))
     (notBegun buffer used second 13)
 
--- a check's numbers, and those of an edit's form: never 7, as a check does not
-abbrev pub groupAnswers : List ℕ
-groupAnswers = 5 ∷ 6 ∷ checkAnswers
-
 -- ---- the same by meaning
 
 -- the document after edits, whatever they are
@@ -116,9 +111,3 @@ after (q ∷ l) doc = after l (edited q doc)
 abbrev pub AllInForm : (room : ℕ) → List Request → List ℕ → Type 0
 AllInForm room [] doc = Unit {0}
 AllInForm room (q ∷ l) doc = (formFault room q doc ≡ 0) × AllInForm room l (edited q doc)
-
--- ---- the contract
-
--- the group: number, place, used length, change in length, which edit was refused, the buffer and the second one
-abbrev pub PerformsGroup : (table buffer : List ℕ) → (used : ℕ) → (list second : List ℕ) → GroupOutcome → Type 0
-PerformsGroup table buffer used list second o = o ≡ group table buffer used list second

@@ -5,12 +5,12 @@ use mathlib.Core.List.{List, [], _∷_, _++_}
 use Prim.Native.Nat.{ℕ}
 use lib.IntN.{pos, _-ℤ_}
 use lib.ListN.{take, replicate}
 use Rattle.paper.specs.Files.{fileOf}
 use Rattle.paper.specs.Schema.{Schema, Parsed, stop, ok, schemaOf}
 use Rattle.paper.specs.Table.{tableOf}
 use Rattle.paper.specs.Open.{all-open}
 use Rattle.paper.specs.SmallShade.{shade, small, buffer}
-use Rattle.group_laws.specs.Groups.{GroupOutcome, group}
+use Rattle.paper.specs.Groups.{GroupOutcome, group}
 
 -- the panel's ID is set to 21, and the use's reference
 abbrev panel : List ℕ
@@ -40,21 +40,21 @@ refused number place which second = record { number = number; place = place; use
 
 pub rename : asked (panel ++ itsUse) lent
     ≡ record { number = 0; place = 0; used = 15; change = pos 0; which = 0; buffer = keyed 173 173 ++ replicate 5 7; second = keyed 173 173 ++ replicate 7 5 }
-unfolding all-open group
+unfolding all-open
 rename = refl
 
 -- "each step alone is invalid": 12 at the use's value, whichever is made
 pub panel-alone : asked panel lent ≡ refused 12 12 0 (keyed 173 165 ++ replicate 7 5)
-unfolding all-open group
+unfolding all-open
 panel-alone = refl
 
 pub use-alone : asked itsUse lent ≡ refused 12 12 0 (keyed 165 173 ++ replicate 7 5)
-unfolding all-open group
+unfolding all-open
 use-alone = refl
 
 -- a use comes, it goes again, and the third edit is at no place: 0 up to the longest that was reached
 pub third-refused : asked (1 ∷ 10 ∷ 4 ∷ 25 ∷ 20 ∷ 165 ∷ 2 ∷ 2 ∷ 10 ∷ 0 ∷ 2 ∷ 1 ∷ 0 ∷ []) lent ≡ refused 6 0 3 (small ++ (0 ∷ 0 ∷ 0 ∷ 0 ∷ 5 ∷ 5 ∷ 5 ∷ []))
-unfolding all-open group
+unfolding all-open
 third-refused = refl
 
 -- the use goes: 0 up to the starting length, in both buffers
@@ -68,24 +68,24 @@ pub shorter : asked (2 ∷ 10 ∷ 0 ∷ []) lent
       buffer = take 10 small ++ (2 ∷ 0 ∷ 0 ∷ 0 ∷ 0 ∷ replicate 5 7);
       second = take 10 small ++ (2 ∷ 0 ∷ 0 ∷ 0 ∷ 0 ∷ replicate 7 5);
     }
-unfolding all-open group
+unfolding all-open
 shorter = refl
 
 -- a first edit that is refused has begun: the second buffer then holds the starting document
 pub first-refused : asked (2 ∷ 1 ∷ 0 ∷ []) lent ≡ refused 6 0 1 (small ++ replicate 7 5)
-unfolding all-open group
+unfolding all-open
 first-refused = refl
 
 -- the size is the first buffer's: 21 tokens would fit the second one alone
 pub first-buffers : asked (1 ∷ 10 ∷ 6 ∷ 25 ∷ 20 ∷ 165 ∷ 165 ∷ 165 ∷ 2 ∷ []) lent ≡ refused 5 0 1 (small ++ replicate 7 5)
-unfolding all-open group
+unfolding all-open
 first-buffers = refl
 
 -- before any edit: the list's own fault, and then a second buffer shorter than the first
 pub not-begun : asked (2 ∷ 1 ∷ []) [] ≡ refused 4 0 0 []
-unfolding all-open group
+unfolding all-open
 not-begun = refl
 
 pub second-short : asked panel (replicate 19 5) ≡ refused 5 0 0 (replicate 19 5)
-unfolding all-open group
+unfolding all-open
 second-short = refl
