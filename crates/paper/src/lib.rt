@@ -1,9 +1,7 @@
 // The paper ("What is to be built") as definitions: see specs/Lib.antt for the order to read them in.
 //
-// Here stand the paper's numbers, each at its one home, the types that definitions and code share, and the one function that reads a token.
+// Here stand the paper's numbers, each at its one home, and the types that definitions and code share.
 // Assumes nothing.
-ghost use mathlib.Core.Path.{_≡_};
-ghost use Rattle.paper.specs.Tokens.{tokOf};
 
 // ---- The paper's numbers, for code, under the names of include/shrikemuff.h; specs/ has them for definitions.
 
@@ -177,34 +175,4 @@ pub enum Tok {
     Attr(u32),
     Value(u32),
     Bad,
-}
-
-// "A token is number × 8 + sort, the number at most 65,535." Anything else is Bad.
-pub fn read_tok(t: u32) -> Tok
-    ensures { λ r. ⌜ r ≡ tokOf t ⌝ }
-{
-    let s = t % SORTS;
-    let n = t / SORTS;
-    if n > MOST_NUMBER {
-        return Tok::Bad;
-    }
-    if s == START {
-        return Tok::Start(n);
-    }
-    if s == END {
-        if n == 0 {
-            return Tok::End;
-        }
-        return Tok::Bad;
-    }
-    if s == TEXT {
-        return Tok::Text(n);
-    }
-    if s == ATTRIBUTE {
-        return Tok::Attr(n);
-    }
-    if s == VALUE {
-        return Tok::Value(n);
-    }
-    Tok::Bad
 }
