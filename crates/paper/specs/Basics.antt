@@ -40,6 +40,10 @@ mostNames = 64
 abbrev pub mostAttributes : ℕ
 mostAttributes = 64
 
+-- Item 8: "Up to 16 in a schema": fixed attributes
+abbrev pub mostFixed : ℕ
+mostFixed = 16
+
 -- Item 6: "a list of 1 to 256 edits"
 abbrev pub mostEdits : ℕ
 mostEdits = 256
@@ -81,6 +85,11 @@ module _ {A : Type 0} where
   abbrev pub some-of : (A → Bool) → List A → Bool
   some-of P [] = false
   some-of P (x ∷ l) = P x || some-of P l
+
+  -- what f gives of the first in the list of which P holds
+  abbrev pub firstWith : (A → Bool) → (A → ℕ) → List A → Option ℕ
+  firstWith P f [] = none
+  firstWith P f (x ∷ l) = cond (P x) (some (f x)) (firstWith P f l)
 
   abbrev pub null : List A → Bool
   null [] = true

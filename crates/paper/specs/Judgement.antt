@@ -1,5 +1,6 @@
 -- "Judgement of a document": one definition, over the rules that a schema or a table gives. Assumes nothing.
 use mathlib.Core.Bool.{Bool, true, false, cond, not, _&&_, _||_}
+use mathlib.Core.Option.{Option, none, some}
 use mathlib.Core.List.{List, [], _∷_, map}
 use Prim.Native.Nat.{ℕ, zero, suc, _+_}
 use lib.Dec.{ltb, eqb}
@@ -50,12 +51,28 @@ eachAttr P (End ∷ r) = eachAttr P r
 eachAttr P (Text n ∷ r) = eachAttr P r
 eachAttr P (Bad ∷ r) = eachAttr P r
 
--- "attributes (8): each one allowed, all required present, one value each unless IDREFS"
+-- the value v, and no other, begins r
+abbrev pub onlyValue : ℕ → List Tok → Bool
+onlyValue v [] = false
+onlyValue v (Value n ∷ r) = eqb n v && eqb (values r) 0
+onlyValue v (Attr n ∷ r) = false
+onlyValue v (Start n ∷ r) = false
+onlyValue v (End ∷ r) = false
+onlyValue v (Text n ∷ r) = false
+onlyValue v (Bad ∷ r) = false
+
+-- Item 8: "the attribute may be absent, and if present has exactly that value, else 8". r: what follows the attribute
+abbrev pub fixedGood : Option ℕ → List Tok → Bool
+fixedGood none r = true
+fixedGood (some v) r = onlyValue v r
+
+-- "attributes (8): each one allowed, all required present, one value each unless IDREFS", and item 8's
 unfoldable pub attributesGood : Rules → ℕ → List Tok → Bool
 attributesGood R e h =
     eachAttr (λ a r. R .allowed e a) h
     && every (λ a. not (R .required e a) || present a h) mostAttributes
     && eachAttr (λ a r. R .idrefs e a || eqb (values r) 1) h
+    && eachAttr (λ a r. fixedGood (R .fixed e a) r) h
 
 -- ---- content (9)
 

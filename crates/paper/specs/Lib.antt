@@ -45,4 +45,8 @@ pub mod Given
 pub mod BackExamples
 pub mod ListExamples
 pub mod GroupExamples
+-- Items 2, 6, 8 and 12, by computing
+pub mod BackExamples
+pub mod ListExamples
+pub mod FixedExamples
 pub mod InclusionExamples

@@ -2,7 +2,7 @@
 use Rattle.paper.specs.Files.{bytesOf, front, reading, writing, read, write}
 use Rattle.paper.specs.Matching.{matches, begins}
 use Rattle.paper.specs.Schema.{symbol, exprOf, number, schemaOf}
-use Rattle.paper.specs.Table.{block, tableOf, translate, properSets, properModel, properBlock, proper}
+use Rattle.paper.specs.Table.{block, fixedPart, tableOf, translate, properSets, properModel, properBlock, properEntry, properFixed, proper}
 use Rattle.paper.specs.Tokens.{endOf}
 use Rattle.paper.specs.Shape.{isElement, shapeOf}
 use Rattle.paper.specs.Judgement.{attributesGood, contentGood, contentBegun, elementFault, judge, checking, check}
@@ -17,5 +17,5 @@ use Rattle.paper.specs.Dtd.Imported.{declared, import, names, spot}
 use Rattle.paper.specs.Program.{request, linesOf, printed}
 
 unfoldable pub all-open : Unit {0}
-unfolding bytesOf front reading writing read write matches begins symbol exprOf number schemaOf block tableOf translate properSets properModel properBlock proper endOf isElement shapeOf attributesGood contentGood contentBegun elementFault judge checking check goodPiece goodPlace edited touchedBy went inverse lookedAt formFault sizeFault editing editBy edit splitList editList group shortestLost comparing compare dtd.reading declared import names spot request linesOf printed
+unfolding bytesOf front reading writing read write matches begins symbol exprOf number schemaOf block fixedPart tableOf translate properSets properModel properBlock properEntry properFixed proper endOf isElement shapeOf attributesGood contentGood contentBegun elementFault judge checking check goodPiece goodPlace edited touchedBy went inverse lookedAt formFault sizeFault editing editBy edit splitList editList group shortestLost comparing compare dtd.reading declared import names spot request linesOf printed
 all-open = tt

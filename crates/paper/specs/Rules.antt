@@ -7,11 +7,11 @@ use mathlib.Core.List.{List, [], _∷_}
 use Prim.Native.Nat.{ℕ, _+_}
 use lib.Dec.{eqb}
 use lib.ListN.{length, getD}
-use Rattle.paper.specs.Basics.{find, some-of, null}
+use Rattle.paper.specs.Basics.{find, some-of, firstWith, null}
 use Rattle.paper.specs.Sets.{bit}
-use Rattle.paper.specs.Schema.{Attribute, Content, empty, text, model, Element, Schema}
+use Rattle.paper.specs.Schema.{Attribute, isFixed, Content, empty, text, model, Element, Schema}
 use Rattle.paper.specs.Matching.{matches, begins}
-use Rattle.paper.specs.Table.{block, cell, kindAt, allowedAt, requiredAt, idAt, idrefAt, idrefsAt, countAt, noChildAt, firstAt, lastAt, namesAt, followAt, kindNumber, ofKind, isRequired}
+use Rattle.paper.specs.Table.{block, cell, kindAt, allowedAt, requiredAt, idAt, idrefAt, idrefsAt, countAt, noChildAt, firstAt, lastAt, namesAt, followAt, Entry, fixedPart, entries, kindNumber, ofKind, isRequired}
 
 pub record Rules : Type 0 where
   -- E, and the root's name
@@ -27,6 +27,8 @@ pub record Rules : Type 0 where
   pub id : ℕ → ℕ → Bool
   pub idref : ℕ → ℕ → Bool
   pub idrefs : ℕ → ℕ → Bool
+  -- Item 8: the value that is fixed, if one is
+  pub fixed : ℕ → ℕ → Option ℕ
 
 -- ---- from a schema
 
@@ -39,6 +41,10 @@ elementAt s e = getD (s .elements) e undeclared
 -- the element has an attribute of that number, with P
 abbrev pub has : (Attribute → Bool) → Element → ℕ → Bool
 has P x a = some-of (λ y. P y && eqb a (y .number)) (x .attributes)
+
+-- the value to which an attribute of that number is fixed, if it is
+abbrev pub fixedTo : Element → ℕ → Option ℕ
+fixedTo x a = firstWith (λ y. isFixed y && eqb a (y .number)) (λ y. y .value) (x .attributes)
 
 abbrev pub describedBy : Content → List ℕ → Bool
 describedBy empty w = false
@@ -62,6 +68,7 @@ ofSchema s = record {
   id = λ e a. has (ofKind 1) (elementAt s e) a;
   idref = λ e a. has (ofKind 2) (elementAt s e) a;
   idrefs = λ e a. has (ofKind 3) (elementAt s e) a;
+  fixed = λ e a. fixedTo (elementAt s e) a;
 }
 
 -- ---- from a table
@@ -101,6 +108,10 @@ abbrev pub goesOn : Option State → Bool
 goesOn none = false
 goesOn (some s) = true
 
+-- the value of the entry of element e and attribute a, if there is one
+abbrev pub fixedBy : List Entry → ℕ → ℕ → Option ℕ
+fixedBy l e a = firstWith (λ x. eqb e (x .element) && eqb a (x .attribute)) (λ x. x .value) l
+
 abbrev pub ofTable : List ℕ → Rules
 ofTable t = record {
   elements = getD t 0 0;
@@ -113,4 +124,5 @@ ofTable t = record {
   id = λ e a. bit (cell (block t e) idAt) a;
   idref = λ e a. bit (cell (block t e) idrefAt) a;
   idrefs = λ e a. bit (cell (block t e) idrefsAt) a;
+  fixed = λ e a. fixedBy (entries (fixedPart t)) e a;
 }

@@ -4,8 +4,8 @@ use mathlib.Core.Bool.{Bool, false, cond, _&&_, _||_}
 use mathlib.Core.Option.{Option, none, some}
 use mathlib.Core.List.{List, [], _∷_, _++_}
 use Prim.Native.Nat.{ℕ, zero, suc, _+_, _-_}
-use lib.Dec.{leb, eqb}
-use Rattle.paper.specs.Basics.{mostElements, mostNames, mostAttributes, between}
+use lib.Dec.{leb, ltb, eqb}
+use Rattle.paper.specs.Basics.{mostNumber, mostElements, mostNames, mostAttributes, mostFixed, between}
 use Rattle.paper.specs.Files.{Front, broken, got, front}
 use Rattle.paper.specs.Expressions.{Expr, name, seq, alt, opt, star, plus, count}
 use Rattle.paper.specs.Sets.{ambiguous}
@@ -62,11 +62,21 @@ exprOf s = only (exprsOf s)
 
 -- ---- a schema
 
--- "its number, 0 to 63 [..]; its kind, 0 CDATA, 1 ID, 2 IDREF, 3 IDREFS; its status, 0 required, 1 implied"
+-- "its number, 0 to 63 [..]; its kind, 0 CDATA, 1 ID, 2 IDREF, 3 IDREFS; its status, 0 required, 1 implied". Item 8: "status 2, fixed,
+-- for CDATA, followed by its value number"; the value is 0 for the other statuses
 pub record Attribute : Type 0 where
   pub number : ℕ
   pub kind : ℕ
   pub status : ℕ
+  pub value : ℕ
+
+abbrev pub isFixed : Attribute → Bool
+isFixed y = eqb (y .status) 2
+
+-- how many of the attributes are fixed
+abbrev pub fixedIn : List Attribute → ℕ
+fixedIn [] = 0
+fixedIn (y ∷ l) = cond (isFixed y) 1 0 + fixedIn l
 
 -- "its kind: 0 EMPTY, 1 text only (#PCDATA), 2 a content model"
 pub data Content : Type 0 where
@@ -147,29 +157,42 @@ kindAfter had = do
   k ← number 0 3
   cond (had && eqb k 1) (refuse 2) (pure k)
 
+-- Item 8: "a seventeenth fixed attribute, one not CDATA [..] is 2 where its number stands": the largest status of an attribute of that
+-- kind, where `met` fixed ones were met in the schema
+abbrev pub mostStatus : (kind met : ℕ) → ℕ
+mostStatus kind met = cond (eqb kind 0 && ltb met mostFixed) 2 1
+
+-- "fixed [..], followed by its value number"; "a value over 65,535 is 2"
+abbrev pub mostValue : (status : ℕ) → ℕ
+mostValue status = cond (eqb status 2) mostNumber 0
+
+abbrev pub valueAfter : (status : ℕ) → Reader ℕ
+valueAfter status = cond (eqb status 2) (number 0 mostNumber) (pure 0)
+
 -- "its number, 0 to 63, strictly rising within the element": the next one is `low` or more
-abbrev pub attributesFrom : ℕ → ℕ → Bool → Reader (List Attribute)
-attributesFrom zero low had = pure []
-attributesFrom (suc n) low had = do
+abbrev pub attributesFrom : ℕ → (low : ℕ) → (had : Bool) → (met : ℕ) → Reader (List Attribute)
+attributesFrom zero low had met = pure []
+attributesFrom (suc n) low had met = do
   a ← number low (mostAttributes - 1)
   k ← kindAfter had
-  s ← number 0 1
-  rest ← attributesFrom n (suc a) (had || eqb k 1)
-  pure (record { number = a; kind = k; status = s } ∷ rest)
+  s ← number 0 (mostStatus k met)
+  v ← valueAfter s
+  rest ← attributesFrom n (suc a) (had || eqb k 1) (met + cond (eqb s 2) 1 0)
+  pure (record { number = a; kind = k; status = s; value = v } ∷ rest)
 
-abbrev pub element : ℕ → Reader Element
-element E = do
+abbrev pub element : ℕ → (met : ℕ) → Reader Element
+element E met = do
   k ← number 0 2
   c ← contentAs E k
   n ← number 0 mostAttributes
-  attributes ← attributesFrom n 0 false
+  attributes ← attributesFrom n 0 false met
   pure (record { content = c; attributes = attributes })
 
-abbrev pub elementsOf : ℕ → ℕ → Reader (List Element)
-elementsOf zero E = pure []
-elementsOf (suc n) E = do
-  x ← element E
-  xs ← elementsOf n E
+abbrev pub elementsOf : ℕ → ℕ → (met : ℕ) → Reader (List Element)
+elementsOf zero E met = pure []
+elementsOf (suc n) E met = do
+  x ← element E met
+  xs ← elementsOf n E (met + fixedIn (x .attributes))
   pure (x ∷ xs)
 
 -- "at the end, leftover bytes (2)"
@@ -182,7 +205,7 @@ unfoldable pub schemaOf : Reader Schema
 schemaOf = do
   E ← number 1 mostElements
   root ← number 0 (E - 1)
-  elements ← elementsOf E E
+  elements ← elementsOf E E 0
   finished (record { root = root; elements = elements })
 
 -- the translator's number for a file, after the table's length was found right

@@ -1,22 +1,22 @@
 -- "Table": its layout, the table of a schema, and what makes a table proper. Assumes nothing.
 use mathlib.Core.Bool.{Bool, true, cond, not, _&&_, _||_}
 use mathlib.Core.List.{List, [], _∷_, _++_, map}
-use Prim.Native.Nat.{ℕ, _+_, _-_, _*_, _/_, _%_, _^_}
+use Prim.Native.Nat.{ℕ, zero, suc, _+_, _-_, _*_, _/_, _%_, _^_}
 use lib.Dec.{leb, ltb, eqb}
 use lib.ListN.{length, take, drop, getD, replicate}
 use lib.Bits.{bitOr}
-use Rattle.paper.specs.Basics.{mostElements, mostNames, mostAttributes, between, every, all, consIf, concat, distinct, from, pad}
+use Rattle.paper.specs.Basics.{mostNumber, mostElements, mostNames, mostAttributes, mostFixed, between, every, all, consIf, concat, distinct, from, pad}
 use Rattle.paper.specs.Expressions.{names, count}
 use Rattle.paper.specs.Sets.{nullable, bit, when, firstWord, lastWord, followWord}
-use Rattle.paper.specs.Schema.{Attribute, Content, empty, text, model, Element, Schema, Parsed, stop, ok, schemaOf}
+use Rattle.paper.specs.Schema.{Attribute, isFixed, Content, empty, text, model, Element, Schema, Parsed, stop, ok, schemaOf}
 
 -- ---- the layout
 
 -- "E, root, then 48 blocks of 138: kind; the sets of attributes allowed, required, ID, IDREF, IDREFS, one bit each; the number
 -- n of occurrences; 1 if no child at all matches, else 0; the sets of first and of last occurrences; 64 element names; 64
--- follow sets."
+-- follow sets." Item 8: "The table grows by a count and 16 entries of element, attribute and value, to 6,675 numbers"
 abbrev pub tableLength : ℕ
-tableLength = 6626
+tableLength = 6675
 
 abbrev pub blockLength : ℕ
 blockLength = 138
@@ -58,12 +58,40 @@ namesAt = 10
 abbrev pub followAt : ℕ
 followAt = 74
 
+-- where the blocks end, and the count of fixed attributes stands
+abbrev pub fixedAt : ℕ
+fixedAt = 6626
+
 -- the block of element e, and a number of a block
 unfoldable pub block : List ℕ → ℕ → List ℕ
-block t e = take blockLength (drop (2 + e * blockLength) t)
+block t e = take blockLength (drop (2 + e * blockLength) (take fixedAt t))
 
 abbrev pub cell : List ℕ → ℕ → ℕ
 cell b i = getD b i 0
+
+-- ---- fixed attributes
+
+-- "entries of element, attribute and value"
+pub record Entry : Type 0 where
+  pub element : ℕ
+  pub attribute : ℕ
+  pub value : ℕ
+
+abbrev pub entryLength : ℕ
+entryLength = 3
+
+-- the count and the entries, which end the table
+unfoldable pub fixedPart : List ℕ → List ℕ
+fixedPart t = drop fixedAt t
+
+-- n entries, read from the front of a list
+abbrev pub entriesIn : ℕ → List ℕ → List Entry
+entriesIn zero l = []
+entriesIn (suc n) l = record { element = getD l 0 0; attribute = getD l 1 0; value = getD l 2 0 } ∷ entriesIn n (drop entryLength l)
+
+-- those of a count and 16 entries
+abbrev pub entries : List ℕ → List Entry
+entries f = entriesIn (getD f 0 0) (drop 1 f)
 
 -- ---- the table of a schema
 
@@ -102,8 +130,28 @@ blockOf x =
     ∷ setOf (ofKind 3) (x .attributes)
     ∷ contentNumbers (x .content)
 
+-- "E, root, then 48 blocks"
+abbrev pub blocksOf : Schema → List ℕ
+blocksOf s = pad fixedAt (length (s .elements) ∷ s .root ∷ concat (map blockOf (s .elements)))
+
+-- the entries of the fixed attributes of element e; of elements numbered from e on
+abbrev pub entriesOf : ℕ → List Attribute → List Entry
+entriesOf e [] = []
+entriesOf e (y ∷ l) = consIf (isFixed y) (record { element = e; attribute = y .number; value = y .value }) (entriesOf e l)
+
+abbrev pub entriesFrom : ℕ → List Element → List Entry
+entriesFrom e [] = []
+entriesFrom e (x ∷ l) = entriesOf e (x .attributes) ++ entriesFrom (suc e) l
+
+-- "a count and 16 entries of element, attribute and value"
+abbrev pub entryNumbers : Entry → List ℕ
+entryNumbers x = x .element ∷ x .attribute ∷ x .value ∷ []
+
+abbrev pub fixedNumbers : List Entry → List ℕ
+fixedNumbers l = length l ∷ pad (mostFixed * entryLength) (concat (map entryNumbers l))
+
 unfoldable pub tableOf : Schema → List ℕ
-tableOf s = pad tableLength (length (s .elements) ∷ s .root ∷ concat (map blockOf (s .elements)))
+tableOf s = blocksOf s ++ fixedNumbers (entriesFrom 0 (s .elements))
 
 -- "Order: table buffer length (13); then the file [..]". "the translator [answers] a number": with it, the table as it is left.
 abbrev pub translated : Parsed Schema → List ℕ → ℕ × List ℕ
@@ -170,12 +218,40 @@ properBlock E b =
     properSets b
     && cond (leb (cell b kindAt) 1) (zeros (drop countAt b)) (eqb (cell b kindAt) 2 && properModel E b)
 
--- "A table is proper exactly if: it has 6,626 numbers; E, root and kinds keep their ranges; [..] unused numbers, blocks from E
--- on included, are 0."
+-- Item 8: "entries rise strictly by element and then attribute": the next one is of element e and of attribute `low` or more, or of a
+-- later element
+abbrev pub risingFrom : (e low : ℕ) → List Entry → Bool
+risingFrom e low [] = true
+risingFrom e low (x ∷ l) =
+    (ltb e (x .element) || (eqb e (x .element) && leb low (x .attribute))) && risingFrom (x .element) (suc (x .attribute)) l
+
+-- "[entries] name an attribute allowed, of no ID or reference kind and not required, [..] values stay at or below 65,535"
+unfoldable pub properEntry : List ℕ → Entry → Bool
+properEntry t x =
+    let b : List ℕ = block t (x .element) in
+    ltb (x .element) (getD t 0 0)
+    && bit (cell b allowedAt) (x .attribute)
+    && not (bit (cell b requiredAt) (x .attribute))
+    && not (bit (cell b idAt) (x .attribute))
+    && not (bit (cell b idrefAt) (x .attribute))
+    && not (bit (cell b idrefsAt) (x .attribute))
+    && leb (x .value) mostNumber
+
+-- "the count is at most 16, [..] unused entries are 0"; f: the count and the entries of the table t
+unfoldable pub properFixed : List ℕ → List ℕ → Bool
+properFixed t f =
+    leb (getD f 0 0) mostFixed
+    && risingFrom 0 0 (entries f)
+    && all (properEntry t) (entries f)
+    && zeros (drop (1 + getD f 0 0 * entryLength) f)
+
+-- "A table is proper exactly if: it has [6,675] numbers; E, root and kinds keep their ranges; [..] unused numbers, blocks from E
+-- on included, are 0." Item 8: "proper now also asks [..]"
 unfoldable pub proper : List ℕ → Bool
 proper t =
     eqb (length t) tableLength
     && between 1 mostElements (getD t 0 0)
     && ltb (getD t 1 0) (getD t 0 0)
     && every (λ e. properBlock (getD t 0 0) (block t e)) (getD t 0 0)
-    && zeros (drop (2 + getD t 0 0 * blockLength) t)
+    && zeros (drop (2 + getD t 0 0 * blockLength) (take fixedAt t))
+    && properFixed t (fixedPart t)

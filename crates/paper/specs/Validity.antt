@@ -4,6 +4,7 @@
 use mathlib.Core.Path.{_≡_}
 use mathlib.Core.Logic.{_⊎_}
 use mathlib.Core.Bool.{true}
+use mathlib.Core.Option.{some}
 use mathlib.Core.List.{List, [], _∷_, _++_, map}
 use Prim.Native.Nat.{ℕ, zero, suc, _+_, _≤_, _<_}
 use lib.Dec.{T}
@@ -15,7 +16,7 @@ use Rattle.paper.specs.Schema.{Content, empty, text, model, Element, Sch
 use Rattle.paper.specs.Table.{ofKind, isRequired}
 use Rattle.paper.specs.Tokens.{toks, heads, kids, childAt, values}
 use Rattle.paper.specs.Shape.{shapeOf}
-use Rattle.paper.specs.Rules.{elementAt, has}
+use Rattle.paper.specs.Rules.{elementAt, has, fixedTo}
 
 -- "attributes (8): each one allowed, all required present, one value each unless IDREFS". h: the attributes and values that
 -- stand after a start of the element x
@@ -23,6 +24,8 @@ pub record AttributesValid (x : Element) (h : List Tok) : Type 0 where
   pub allowed : (u r : List Tok) (a : ℕ) → h ≡ u ++ Attr a ∷ r → T (has (λ y. true) x a)
   pub required : (a : ℕ) → T (has isRequired x a) → (u : List Tok) × (r : List Tok) × (h ≡ u ++ Attr a ∷ r)
   pub single : (u r : List Tok) (a : ℕ) → h ≡ u ++ Attr a ∷ r → T (has (ofKind 3) x a) ⊎ (values r ≡ 1)
+  -- Item 8: "if present has exactly that value"
+  pub fixed : (u r : List Tok) (a v : ℕ) → h ≡ u ++ Attr a ∷ r → fixedTo x a ≡ some v → (t : List Tok) × (r ≡ Value v ∷ t) × (values t ≡ 0)
 
 -- "content (9): EMPTY has no child and no text, text only [..], a model has no text and a child sequence that the expression
 -- describes". Item 1: "A text-only element now has no text or one, still no child element". k: the children and texts

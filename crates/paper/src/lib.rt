@@ -28,6 +28,9 @@ pub const MOST_NAMES: usize = 64;
 
 pub const MOST_ATTRIBUTES: usize = 64;
 
+// "Up to 16 in a schema": fixed attributes.
+pub const MOST_FIXED: usize = 16;
+
 // The piece of an inverse, or of an edit in a list, stands behind its operation, its place and its count; so an inverse has at most MOST_BACK
 // numbers.
 pub const BACK_PIECE: usize = 3;
@@ -40,12 +43,12 @@ pub const MOST_EDITS: usize = 256;
 // "The sequence buffer has at least 4,290 places."
 pub const SEQUENCE_PLACES: usize = 4290;
 
-// A schema file has at most so many bytes: two, and for each element its kind, a count of symbols in two bytes, the symbols, a count of
-// attributes and three bytes for each.
+// A schema file without fixed attributes has at most so many bytes: two, and for each element its kind, a count of symbols in two bytes, the
+// symbols, a count of attributes and three bytes for each.
 pub const MOST_SCHEMA_FILE: usize = 21650;
 
 // The table: its length, a block's length, where the first block begins, and where the parts of a block begin.
-pub const TABLE_WORDS: usize = 6626;
+pub const TABLE_WORDS: usize = 6675;
 
 pub const BLOCK_WORDS: usize = 138;
 
@@ -74,6 +77,13 @@ pub const LAST_AT: usize = 9;
 pub const NAMES_AT: usize = 10;
 
 pub const FOLLOW_AT: usize = 74;
+
+// Where the count and the entries of fixed attributes begin, how many numbers they have, and an entry has.
+pub const FIXED_AT: usize = 6626;
+
+pub const FIXED_WORDS: usize = 49;
+
+pub const ENTRY_WORDS: usize = 3;
 
 // The kinds of elements.
 pub const EMPTY: u32 = 0;
@@ -107,6 +117,8 @@ pub const IDREFS: u32 = 3;
 pub const REQUIRED: u32 = 0;
 
 pub const IMPLIED: u32 = 1;
+
+pub const FIXED: u32 = 2;
 
 // The sorts of tokens: a token is number × SORTS + sort.
 pub const SORTS: u32 = 8;

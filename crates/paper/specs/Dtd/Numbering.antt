@@ -70,7 +70,7 @@ definitionOf n (d ∷ l) = cond (same n (d .name)) (some d) (definitionOf n l)
 
 abbrev pub attributeFor : ℕ → Option Definition → List Attribute
 attributeFor i none = []
-attributeFor i (some d) = record { number = i; kind = kindNumber (d .kind); status = statusNumber (d .status) } ∷ []
+attributeFor i (some d) = record { number = i; kind = kindNumber (d .kind); status = statusNumber (d .status); value = 0 } ∷ []
 
 -- "an element's attributes by rising number": the attributes of the text from number i on, those that the element has
 abbrev pub attributesFrom : ℕ → List Name → List Definition → List Attribute
