@@ -2,8 +2,9 @@
 pub mod Readers
 pub mod Parts
 pub mod Blocks
-pub mod SameRules
 pub mod Accepted
+pub mod Entries
+pub mod SameRules
 pub mod ProperSets
 pub mod ProperTable
 pub mod Translated

@@ -9,14 +9,9 @@ use lib.ListN.{length, take, drop, getD}
 use lib.Seq.{getD-take, getD-drop}
 use Rattle.paper.specs.Basics.{mostElements, mostNames, between, every, all}
 use Rattle.paper_laws.specs.Basics.{every-iff, all-at}
-use Rattle.paper.specs.Table.{tableLength, blockLength, block, cell, kindAt, countAt, noChildAt, firstAt, lastAt, namesAt, followAt, zeros, properSets, properNext, properModel, properBlock, proper}
+use Rattle.paper.specs.Table.{tableLength, blockLength, fixedAt, block, cell, kindAt, countAt, noChildAt, firstAt, lastAt, namesAt, followAt, zeros, properSets, properNext, properModel, properBlock, properFixed, fixedPart, proper}
 
 -- ---- the table
-
--- a block's numbers are the table's
-pub cell-at : (t : List ℕ) (e i : ℕ) → i < blockLength → cell (block t e) i ≡ getD t (2 + e * blockLength + i) 0
-unfolding block
-cell-at t e i h = getD-take blockLength (drop (2 + e * blockLength) t) i 0 h ∙ getD-drop (2 + e * blockLength) t i 0
 
 pub record ProperTable (t : List ℕ) : Type 0 where
   pub long : length t ≡ tableLength
@@ -24,13 +19,15 @@ pub record ProperTable (t : List ℕ) : Type 0 where
   pub few-elements : getD t 0 0 ≤ mostElements
   pub root-below : getD t 1 0 < getD t 0 0
   pub blocks : (e : ℕ) → e < getD t 0 0 → properBlock (getD t 0 0) (block t e) ≡ true
-  pub unused : zeros (drop (2 + getD t 0 0 * blockLength) t) ≡ true
+  pub unused : zeros (drop (2 + getD t 0 0 * blockLength) (take fixedAt t)) ≡ true
+  pub fixed : properFixed t (fixedPart t) ≡ true
 
 pub table-parts : (t : List ℕ) → proper t ≡ true → ProperTable t
 unfolding proper
 table-parts t e =
     let E : ℕ = getD t 0 0 in
-    let (f, unused) = and-eq-true-iff _ (zeros (drop (2 + E * blockLength) t)) .0 e in
+    let (d, fixed) = and-eq-true-iff _ (properFixed t (fixedPart t)) .0 e in
+    let (f, unused) = and-eq-true-iff _ (zeros (drop (2 + E * blockLength) (take fixedAt t))) .0 d in
     let (g, blocks) = and-eq-true-iff _ (every (λ e. properBlock E (block t e)) E) .0 f in
     let (h, root) = and-eq-true-iff _ (ltb (getD t 1 0) E) .0 g in
     let (long, range) = and-eq-true-iff (eqb (length t) tableLength) (between 1 mostElements E) .0 h in
@@ -42,6 +39,7 @@ table-parts t e =
       root-below = ltb-true (getD t 1 0) E root;
       blocks = every-iff (λ e. properBlock E (block t e)) E .0 blocks;
       unused = unused;
+      fixed = fixed;
     }
 
 -- ---- a block

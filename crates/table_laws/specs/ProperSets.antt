@@ -1,10 +1,10 @@
 -- The sets of attributes in the block of an element that was read are proper. Assumes nothing.
 use mathlib.Core.Path.{_≡_, refl, sym, ap, ap₂, _∙_}
-use mathlib.Core.Bool.{Bool, true, false, not, _&&_, _||_}
-use mathlib.Core.List.{List, [], _∷_}
-use Prim.Native.Nat.{ℕ, suc, _<_}
+use mathlib.Core.Bool.{Bool, true, false, not, _&&_, _||_, and-false}
+use mathlib.Core.List.{List, [], _∷_, _++_}
+use Prim.Native.Nat.{ℕ, suc, _≤_, _<_}
 use native.Mathlib.Omega.{arith}
-use borrow.Author.Tests.{eqb-true, ne-eqb}
+use borrow.Author.Tests.{eqb-true, eq-eqb, ne-eqb}
 use lib.Dec.{eqb}
 use Rattle.paper.specs.Basics.{mostAttributes, every, some-of}
 use Rattle.paper.specs.Schema.{Attribute, Element}
@@ -95,6 +95,23 @@ set-single l r = every-iff (λ k. not (bit w k) || every (λ j. not (bit w j)) k
     go : (k : ℕ) (b : Bool) → At l (ofKind 1) k ≡ b → not (bit w k) || every (λ j. not (bit w j)) k ≡ true
     go k false e = rw (set-bit (ofKind 1) l k, e)
     go k true e = rw (set-bit (ofKind 1) l k, e) (every-iff (λ j. not (bit w j)) k .1 (λ j h. ap not (set-bit (ofKind 1) l j ∙ one-id l 0 r j k h e)))
+
+-- what a rising list has of the number of one of its own is that one
+least : (u v : List Attribute) (y : Attribute) (low : ℕ) (had : Bool) → Rising low had (u ++ y ∷ v) → low ≤ y .number
+least [] v y low had r = r .0
+least (x ∷ u) v y low had (a, b, r) = let h = least u v y (suc (x .number)) (had || eqb (x .kind) 1) r in omega arith
+
+pub at-own : (P : Attribute → Bool) (u v : List Attribute) (y : Attribute) (low : ℕ) (had : Bool) → Rising low had (u ++ y ∷ v)
+    → At (u ++ y ∷ v) P (y .number) ≡ P y
+at-own P [] v y low had (a, b, r) =
+    rw (eq-eqb (y .number) (y .number) refl, absent P v (suc (y .number)) (had || eqb (y .kind) 1) r (y .number) (omega arith)) (alone (P y))
+  where
+    alone : (p : Bool) → (p && true) || false ≡ p
+    alone true = refl
+    alone false = refl
+at-own P (x ∷ u) v y low had (a, b, r) =
+    let h = least u v y (suc (x .number)) (had || eqb (x .kind) 1) r in
+    rw (ne-eqb (y .number) (x .number) (λ z. omega arith), and-false (P x)) (at-own P u v y (suc (x .number)) (had || eqb (x .kind) 1) r)
 
 pub sets-proper : (x : Element) → Rising 0 false (x .attributes) → properSets (blockOf x) ≡ true
 unfolding properSets

@@ -1,18 +1,19 @@
 -- The table of a schema that was read is proper. Assumes nothing.
 use mathlib.Core.Path.{_≡_, refl, sym, ap, _∙_, subst}
 use mathlib.Core.Logic.{inl, inr}
-use mathlib.Core.Bool.{Bool, true, false, cond}
+use mathlib.Core.Bool.{Bool, true, false, cond, not, _&&_}
 use mathlib.Core.List.{List, _∷_, _++_, map, append-assoc}
 use Prim.Native.Nat.{ℕ, zero, suc, _+_, _-_, _*_, _^_, _≤_, _<_}
 use native.Mathlib.Omega.{arith}
 use native.Mathlib.Nat.{not-suc-le-zero, le-of-suc-le-suc}
-use borrow.Author.Tests.{le-leb, lt-ltb, eq-eqb}
-use lib.Dec.{T, leb, ltb}
+use borrow.Author.Tests.{le-leb, lt-ltb, eqb-true, eq-eqb, ne-eqb}
+use lib.Dec.{T, leb, ltb, eqb}
 use lib.ListN.{length, take, drop, getD, replicate, length-append, length-replicate, length-map}
 use lib.Seq.{drop-drop, take-at, drop-at}
-use Rattle.paper.specs.Basics.{mostElements, mostNames, all, from, pad, concat}
-use Rattle.paper.specs.Schema.{Attribute, Content, empty, text, model, Element, Schema}
-use Rattle.paper.specs.Table.{tableLength, blockLength, namesAt, followAt, block, blockOf, tableOf, zeros, properNext, properModel, properBlock, proper}
+use Rattle.paper.specs.Basics.{mostNumber, mostElements, mostNames, mostFixed, all, some-of, from, pad, concat}
+use Rattle.paper.specs.Schema.{Attribute, isFixed, Content, empty, text, model, Element, Schema}
+use Rattle.paper.specs.Table.{tableLength, blockLength, fixedAt, allowedAt, requiredAt, idAt, idrefAt, idrefsAt, namesAt, followAt, block, cell, Entry, entryLength, fixedPart, setOf, ofKind, isRequired, blockOf, blocksOf, entriesFrom, entryNumbers, fixedNumbers, tableOf}
+use Rattle.paper.specs.Table.{zeros, properNext, properModel, properBlock, risingFrom, properEntry, properFixed, proper}
 use Rattle.paper.specs.Rules.{undeclared, elementAt}
 use Rattle.paper.specs.Expressions.{Expr, names, count, Ambiguous}
 use Rattle.content_laws.specs.Names.{length-names, count-some}
@@ -23,9 +24,10 @@ use Rattle.paper_laws.specs.Chosen.{Free, distinct-iff}
 use Rattle.content_laws.specs.Words.{first-word, follow-word, first-fits, last-fits, follow-fits}
 use Rattle.content_laws.specs.Ambiguity.{Clash, ambiguous-iff}
 use Rattle.table_laws.specs.Blocks.{Fine, not-ambiguous, ten}
-use Rattle.table_laws.specs.SameRules.{FineAll, none-left as no-more, one-more as and-more, length-block, block-in}
-use Rattle.table_laws.specs.Accepted.{Good, GoodElement, GoodAll, none-left, one-more, GoodSchema}
-use Rattle.table_laws.specs.ProperSets.{sets-proper}
+use Rattle.table_laws.specs.SameRules.{FineAll, none-left as no-more, one-more as and-more, L, length-L, length-all, blocks-part, fixed-part, block-in, set-same}
+use Rattle.table_laws.specs.Accepted.{Rising, Fixes, fixed-fine, Good, GoodElement, GoodAll, none-left, one-more, GoodSchema}
+use Rattle.table_laws.specs.Entries.{entries-back, length-numbers, rising-entries, all-entries}
+use Rattle.table_laws.specs.ProperSets.{at-own, sets-proper}
 
 -- ---- a model
 
@@ -133,33 +135,74 @@ good-at E l none-left e h = absurd (not-suc-le-zero h)
 good-at E l (one-more g gs) zero h = g
 good-at E l (one-more {l = l′} g gs) (suc e) h = good-at E l′ gs e (le-of-suc-le-suc h)
 
-length-blocks : (l : List Element) → FineAll l → length (concat (map blockOf l)) ≡ length l * blockLength
-length-blocks l no-more = refl
-length-blocks l (and-more {x = x} {l = l′} f fs) = length-append (blockOf x) (concat (map blockOf l′)) ∙ omega (arith, length-block x f, length-blocks l′ fs)
-
 module _ (s : Schema) (g : GoodSchema s) where
   abbrev E : ℕ
   E = length (s .elements)
 
-  abbrev L : List ℕ
-  L = E ∷ s .root ∷ concat (map blockOf (s .elements))
-
   fine : FineAll (s .elements)
   fine = fine-all (g .elements-all)
 
-  length-L : length L ≡ 2 + E * blockLength
-  length-L = let h = length-blocks (s .elements) fine in omega arith
+  few : length (s .elements) ≤ mostElements
+  few = g .few-elements
 
-  short : length L ≤ tableLength
-  short = let h = g .few-elements in omega (arith, length-L)
+  abbrev es : List Entry
+  es = entriesFrom 0 (s .elements)
+
+  abbrev N : List ℕ
+  N = concat (map entryNumbers es)
+
+  few-numbers : length N ≤ mostFixed * entryLength
+  few-numbers = omega (arith, length-numbers es, g .few-fixed)
+
+  long : length (tableOf s) ≡ tableLength
+  unfolding tableOf
+  long =
+      length-append (blocksOf s) (fixedNumbers es)
+      ∙ omega (arith, length-all s fine few, length-pad (mostFixed * entryLength) N few-numbers)
+
+  -- an entry names an attribute of its element, and that one alone has its number
+  entry-proper : (k : ℕ) → k < E → (u v : List Attribute) (y : Attribute) → elementAt s k .attributes ≡ u ++ y ∷ v → isFixed y ≡ true
+      → properEntry (tableOf s) (record { element = k; attribute = y .number; value = y .value }) ≡ true
+  unfolding properEntry tableOf
+  entry-proper k h u v y q t =
+      let x = elementAt s k in
+      let own = good-at E (s .elements) (g .elements-all) k h in
+      let (cdata, low) = fixed-fine u v y (subst Fixes q (own .fixes)) t in
+      let status = eqb-true (y .status) 2 t in
+      let rising = subst (Rising 0 false) q (own .rising) in
+      let at : (i : ℕ) (P : Attribute → Bool) → ((x : Element) → cell (blockOf x) i ≡ setOf P (x .attributes)) → bit (cell (block (tableOf s) k) i) (y .number) ≡ P y
+          = λ i P p. set-same s fine few i P p k (y .number) ∙ ap (λ l. some-of (λ z. P z && eqb (y .number) (z .number)) l) q ∙ at-own P u v y 0 false rising in
+      both (both (both (both (both (both
+      (lt-ltb k E h)
+      (at allowedAt (λ z. true) (λ x. refl)))
+      (ap not (at requiredAt isRequired (λ x. refl) ∙ ne-eqb (y .status) 0 (λ z. omega arith))))
+      (ap not (at idAt (ofKind 1) (λ x. refl) ∙ ne-eqb (y .kind) 1 (λ z. omega arith))))
+      (ap not (at idrefAt (ofKind 2) (λ x. refl) ∙ ne-eqb (y .kind) 2 (λ z. omega arith))))
+      (ap not (at idrefsAt (ofKind 3) (λ x. refl) ∙ ne-eqb (y .kind) 3 (λ z. omega arith))))
+      (le-leb (y .value) mostNumber low)
+
+  fixed-proper : properFixed (tableOf s) (fixedNumbers es) ≡ true
+  unfolding properFixed
+  fixed-proper =
+      both (both (both
+      (le-leb (length es) mostFixed (g .few-fixed))
+      (ap (risingFrom 0 0) (entries-back es) ∙ rising-entries E 0 (s .elements) (g .elements-all)))
+      (ap (all (properEntry (tableOf s))) (entries-back es)
+      ∙ all-entries (properEntry (tableOf s)) 0 (s .elements)
+      (λ k h u v y q t. let z : 0 + k ≡ k = omega arith in rw z (entry-proper k h u v y q t))))
+      (let z : 1 + length es * entryLength ≡ suc (length es * entryLength) = omega arith in
+      rw z (ap zeros (drop-at N (replicate (mostFixed * entryLength - length N) 0) (length es * entryLength) (length-numbers es)) ∙ zeros-replicate (mostFixed * entryLength - length N)))
 
   -- The table of a schema that was read is proper.
   pub table-proper : proper (tableOf s) ≡ true
   unfolding proper tableOf
   table-proper =
-      both (both (both (both
-      (eq-eqb (length (pad tableLength L)) tableLength (length-pad tableLength L short))
+      both (both (both (both (both
+      (eq-eqb (length (tableOf s)) tableLength long)
       (both (le-leb 1 E (g .some-elements)) (le-leb E mostElements (g .few-elements))))
       (lt-ltb (s .root) E (g .root-below)))
-      (every-iff (λ e. properBlock E (block (tableOf s) e)) E .1 (λ e h. ap (properBlock E) (block-in s fine e h) ∙ block-proper E (elementAt s e) (good-at E (s .elements) (g .elements-all) e h))))
-      (ap zeros (drop-at L (replicate (tableLength - length L) 0) (2 + E * blockLength) length-L) ∙ zeros-replicate (tableLength - length L))
+      (every-iff (λ e. properBlock E (block (tableOf s) e)) E .1 (λ e h. ap (properBlock E) (block-in s fine few e h) ∙ block-proper E (elementAt s e) (good-at E (s .elements) (g .elements-all) e h))))
+      (ap (λ t. zeros (drop (2 + E * blockLength) t)) (blocks-part s fine few)
+      ∙ ap zeros (drop-at (L s fine few) (replicate (fixedAt - length (L s fine few)) 0) (2 + E * blockLength) (length-L s fine few))
+      ∙ zeros-replicate (fixedAt - length (L s fine few))))
+      (ap (properFixed (tableOf s)) (fixed-part s fine few) ∙ fixed-proper)

@@ -9,15 +9,16 @@ use native.Mathlib.Decide.{decLt}
 use native.Mathlib.Nat.{not-suc-le-zero, le-of-suc-le-suc}
 use lib.ListN.{length, take, drop, getD, replicate, length-append, length-replicate, List·getD-eq-default, length-map}
 use lib.Seq.{drop-drop, take-at, drop-at, getD-drop}
-use Rattle.paper.specs.Basics.{mostNames, from, pad, concat}
+use Rattle.paper.specs.Basics.{mostElements, mostNames, from, pad, concat}
 use Rattle.paper.specs.Expressions.{Expr, names, count}
 use Rattle.paper.specs.Sets.{bit, followWord}
 use Rattle.paper.specs.Schema.{Attribute, Content, empty, text, model, Element, Schema}
-use Rattle.paper.specs.Table.{tableLength, blockLength, kindAt, allowedAt, requiredAt, idAt, idrefAt, idrefsAt, countAt, noChildAt, block, cell, kindNumber, setOf, ofKind, isRequired, contentNumbers, blockOf, tableOf}
-use Rattle.paper.specs.Rules.{undeclared, elementAt, has, describedBy, begunBy, ofSchema, start, runFrom, runs, goesOn, ofTable}
+use Rattle.paper.specs.Table.{fixedAt, blockLength, kindAt, allowedAt, requiredAt, idAt, idrefAt, idrefsAt, countAt, noChildAt, block, cell, fixedPart, entries, kindNumber, setOf, ofKind, isRequired, contentNumbers, blockOf, blocksOf, entriesFrom, fixedNumbers, tableOf}
+use Rattle.paper.specs.Rules.{undeclared, elementAt, has, fixedTo, fixedBy, describedBy, begunBy, ofSchema, start, runFrom, runs, goesOn, ofTable}
 use Rattle.paper_laws.specs.Words.{bit-zero}
 use Rattle.paper_laws.specs.Basics.{length-pad, length-from}
 use Rattle.content_laws.specs.Names.{length-names}
+use Rattle.table_laws.specs.Entries.{entries-back, fixed-same}
 use Rattle.table_laws.specs.Blocks.{set-bit, Fine, runs-matches, goes-begins, runs-none, goes-none}
 
 -- ---- the blocks of a table
@@ -42,6 +43,10 @@ length-content (model e) h =
 
 pub length-block : (x : Element) → FineElement x → length (blockOf x) ≡ blockLength
 length-block x f = let h = length-content (x .content) (f .fine) in omega arith
+
+length-blocks : (l : List Element) → FineAll l → length (concat (map blockOf l)) ≡ length l * blockLength
+length-blocks l none-left = refl
+length-blocks l (one-more {x = x} {l = l′} f fs) = length-append (blockOf x) (concat (map blockOf l′)) ∙ omega (arith, length-block x f, length-blocks l′ fs)
 
 past-one : (x : Element) (l : List Element) → FineElement x → (z : List ℕ) (e : ℕ)
     → drop (suc e * blockLength) (concat (map blockOf (x ∷ l)) ++ z) ≡ drop (e * blockLength) (concat (map blockOf l) ++ z)
@@ -80,13 +85,33 @@ part-past (x ∷ l) (one-more f fs) n (suc e) i h =
 
 -- ---- the rules
 
-module _ (s : Schema) (f : FineAll (s .elements)) where
+module _ (s : Schema) (f : FineAll (s .elements)) (few : length (s .elements) ≤ mostElements) where
+  abbrev pub L : List ℕ
+  L = length (s .elements) ∷ s .root ∷ concat (map blockOf (s .elements))
+
+  pub length-L : length L ≡ 2 + length (s .elements) * blockLength
+  length-L = let h = length-blocks (s .elements) f in omega arith
+
+  pub length-all : length (blocksOf s) ≡ fixedAt
+  length-all = length-pad fixedAt L (omega (arith, length-L))
+
+  -- the two parts of the table
+  pub blocks-part : take fixedAt (tableOf s) ≡ blocksOf s
+  unfolding tableOf
+  blocks-part = take-at (blocksOf s) (fixedNumbers (entriesFrom 0 (s .elements))) fixedAt length-all
+
+  pub fixed-part : fixedPart (tableOf s) ≡ fixedNumbers (entriesFrom 0 (s .elements))
+  unfolding fixedPart tableOf
+  fixed-part = drop-at (blocksOf s) (fixedNumbers (entriesFrom 0 (s .elements))) fixedAt length-all
+
   rest : ℕ
-  rest = tableLength - length (length (s .elements) ∷ s .root ∷ concat (map blockOf (s .elements)))
+  rest = fixedAt - length L
 
   block-is : (e : ℕ) → block (tableOf s) e ≡ take blockLength (drop (e * blockLength) (concat (map blockOf (s .elements)) ++ replicate rest 0))
-  unfolding block tableOf rest
-  block-is e = let k : 2 + e * blockLength ≡ suc (suc (e * blockLength)) = omega arith in ap (λ n. take blockLength (drop n (tableOf s))) k
+  unfolding block rest
+  block-is e =
+      let k : 2 + e * blockLength ≡ suc (suc (e * blockLength)) = omega arith in
+      ap (λ t. take blockLength (drop (2 + e * blockLength) t)) blocks-part ∙ ap (λ n. take blockLength (drop n (blocksOf s))) k
 
   pub block-in : (e : ℕ) → e < length (s .elements) → block (tableOf s) e ≡ blockOf (elementAt s e)
   block-in e h = block-is e ∙ part-at (s .elements) f (replicate rest 0) e h
@@ -113,7 +138,7 @@ module _ (s : Schema) (f : FineAll (s .elements)) where
       (λ e h. block-past e h kindAt ∙ ap (λ x. kindNumber (x .content)) (sym (past-undeclared (s .elements) e h)))
 
   -- the five sets, by where they stand in a block and what they hold
-  set-same : (i : ℕ) (P : Attribute → Bool) → ((x : Element) → cell (blockOf x) i ≡ setOf P (x .attributes))
+  pub set-same : (i : ℕ) (P : Attribute → Bool) → ((x : Element) → cell (blockOf x) i ≡ setOf P (x .attributes))
       → (e a : ℕ) → bit (cell (block (tableOf s) e) i) a ≡ has P (elementAt s e) a
   set-same i P q e a = by-place (λ e. bit (cell (block (tableOf s) e) i) a ≡ has P (elementAt s e) a)
       (λ e h. ap (λ b. bit (cell b i) a) (block-in e h) ∙ ap (λ w. bit w a) (q (elementAt s e)) ∙ set-bit P (elementAt s e .attributes) a)
@@ -151,6 +176,10 @@ module _ (s : Schema) (f : FineAll (s .elements)) where
       ∙ ap (λ x. begunBy (x .content) w) (sym (past-undeclared (s .elements) e h)))
       e
 
+  fixed-values : (e a : ℕ) → fixedBy (entries (fixedPart (tableOf s))) e a ≡ fixedTo (elementAt s e) a
+  fixed-values e a =
+      ap (λ l. fixedBy (entries l) e a) fixed-part ∙ ap (λ l. fixedBy l e a) (entries-back (entriesFrom 0 (s .elements))) ∙ fixed-same (s .elements) e a
+
   -- The rules read from the table are the rules read from the expressions.
   pub same-rules : ofTable (tableOf s) ≡ ofSchema s
   unfolding tableOf
@@ -165,4 +194,5 @@ module _ (s : Schema) (f : FineAll (s .elements)) where
     id = λ e a. set-same idAt (ofKind 1) (λ x. refl) e a i;
     idref = λ e a. set-same idrefAt (ofKind 2) (λ x. refl) e a i;
     idrefs = λ e a. set-same idrefsAt (ofKind 3) (λ x. refl) e a i;
+    fixed = λ e a. fixed-values e a i;
   }

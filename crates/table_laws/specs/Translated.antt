@@ -18,7 +18,7 @@ module _ (file : List ℕ) {s : Schema} {r : List ℕ} (e : schemaOf file ≡ ok
   file-proper = table-proper s (schema-good file e)
 
   pub file-rules : ofTable (tableOf s) ≡ ofSchema s
-  file-rules = same-rules s (fine-all (schema-good file e .elements-all))
+  file-rules = let g = schema-good file e in same-rules s (fine-all (g .elements-all)) (g .few-elements)
 
   pub check-by-expressions : (buffer : List ℕ) (used : ℕ) → check (tableOf s) buffer used ≡ checking (ofSchema s) buffer used
   unfolding check
