@@ -9,17 +9,17 @@ use native.Mathlib.Omega.{arith}
 use borrow.Author.Tests.{leb-true, le-leb, lt-ltb, ltb-true}
 use lib.Dec.{ltb}
 use lib.ListN.{length}
-use Rattle.paper.specs.Basics.{mostElements, between, all, concat}
+use Rattle.paper.specs.Basics.{mostElements, between, concat}
 use Rattle.paper.specs.Files.{fileOf}
 use Rattle.paper.specs.Expressions.{Expr}
 use Rattle.paper.specs.Schema.{model, Element, Schema, stop, ok, number, finished, schemaOf}
-use Rattle.paper.specs.SchemaWritten.{contentWritten, elementWritten, schemaWritten, formedElement, formed, Unambiguous, MeetsAmbiguous}
+use Rattle.paper.specs.SchemaWritten.{contentWritten, elementWritten, schemaWritten, formedElements, formed, Unambiguous, MeetsAmbiguous}
 use Rattle.numbers.specs.Laws.{bytes}
 use Rattle.schema_laws.specs.Written.{ahead, ahead-file, file-ahead, ahead-join, Ends, took, failed, Exact, Nowhere, took-form, met-there}
 use Rattle.schema_laws.specs.Written.{then-takes, then-stops, then-ends, same, reworded}
 use Rattle.schema_laws.specs.Rows.{in-range, number-exact, upto-exact, Amid}
 use Rattle.schema_laws.specs.Contents.{Tangled}
-use Rattle.schema_laws.specs.Elements.{fit, elements-exact}
+use Rattle.schema_laws.specs.Elements.{fit, fixes, elements-exact}
 use Rattle.schema_laws.specs.Unambiguous.{ambiguous-true, fit-all}
 
 -- ---- what is written
@@ -44,11 +44,11 @@ taken-of : (s : Schema) → formed s ≡ true → Unambiguous (s .elements) → 
 unfolding schemaOf
 taken-of s p h =
     let E = length (s .elements) in
-    let (q, forms) = and-eq-true-iff (between 1 mostElements E && ltb (s .root) E) (all (formedElement E) (s .elements)) .0 p in
+    let (q, forms) = and-eq-true-iff (between 1 mostElements E && ltb (s .root) E) (formedElements E 0 (s .elements)) .0 p in
     let (good, low) = and-eq-true-iff (between 1 mostElements E) (ltb (s .root) E) .0 q in
     then-takes (number-exact 1 mostElements (omega arith)) _ E _ good
     ∙ then-takes (root-exact E good) _ (s .root) _ low
-    ∙ then-takes (elements-exact E (in-range 1 mostElements E good .1) E) _ (s .elements) [] (refl, fit-all E (s .elements) .1 (forms, h))
+    ∙ then-takes (elements-exact E (in-range 1 mostElements E good .1) E 0) _ (s .elements) [] (refl, fit-all E (s .elements) 0 .1 (forms, h))
 
 -- a file that meets an ambiguous model is refused with 3
 met-of : (file : List ℕ) → MeetsAmbiguous file → schemaOf file ≡ stop 3
@@ -59,15 +59,15 @@ met-of file m =
     rw (m .begins, written E (m .root) (m .before) (m .e) (m .rest))
     (then-takes (number-exact 1 mostElements (omega arith)) _ E _ good
     ∙ then-takes (root-exact E good) _ (m .root) _ (lt-ltb (m .root) E (m .root-below))
-    ∙ then-stops (elements-exact E (in-range 1 mostElements E good .1) E) _ _ amid)
+    ∙ then-stops (elements-exact E (in-range 1 mostElements E good .1) E 0) _ _ amid)
   where
-    amid : Amid (fit (m .E)) elementWritten (Tangled (m .E) (λ e. contentWritten (model e))) (m .E)
+    amid : Amid (fit (m .E)) fixes 0 elementWritten (Tangled (m .E) (λ e. contentWritten (model e))) (m .E)
         (ahead (concat (map elementWritten (m .before))) (ahead (contentWritten (model (m .e))) (m .rest)))
     amid = record {
       before = m .before;
       rest = ahead (contentWritten (model (m .e))) (m .rest);
       few = m .room;
-      good = fit-all (m .E) (m .before) .1 (m .before-formed, m .before-clear);
+      good = fit-all (m .E) (m .before) 0 .1 (m .before-formed, m .before-clear);
       here = record { e = m .e; rest = m .rest; formed = m .model-formed; tangled = ambiguous-true (m .e) .1 (m .ambiguous); begins = refl };
       begins = refl;
     }
@@ -80,9 +80,9 @@ Whole file s = (file ≡ ahead (schemaWritten s) []) × (formed s ≡ true) × U
 
 -- what stops the reader of the elements, behind E and the root
 met-at : (file : List ℕ) (E root : ℕ) (u : List ℕ) → between 1 mostElements E ≡ true → ltb root E ≡ true → file ≡ ahead (E ∷ root ∷ []) u
-    → Amid (fit E) elementWritten (Tangled E (λ e. contentWritten (model e))) E u → MeetsAmbiguous file
+    → Amid (fit E) fixes 0 elementWritten (Tangled E (λ e. contentWritten (model e))) E u → MeetsAmbiguous file
 met-at file E root u good low p m =
-    let (forms, models) = fit-all E (m .before) .0 (m .good) in
+    let (forms, models) = fit-all E (m .before) 0 .0 (m .good) in
     record {
       E = E;
       root = root;
@@ -105,8 +105,8 @@ unfolding schemaOf
 schema-ends file b =
     then-ends (number-exact 1 mostElements (omega arith)) _ file b (λ z. absurd z) λ E t p good c.
     then-ends (root-exact E good) _ t c (λ z. absurd z) λ root u q low d.
-    then-ends (elements-exact E (in-range 1 mostElements E good .1) E) _ u d (λ m. met-at file E root u good low (cc) m) λ l v i fine j.
-    let (forms, models) = fit-all E l .0 (fine .1) in
+    then-ends (elements-exact E (in-range 1 mostElements E good .1) E 0) _ u d (λ m. met-at file E root u good low (cc) m) λ l v i fine j.
+    let (forms, models) = fit-all E l 0 .0 (fine .1) in
     end (record { root = root; elements = l }) v (rw (fine .0) (cc)) (rw (fine .0, good, low) forms) models
   where
     end : (s : Schema) (v : List ℕ) → file ≡ ahead (schemaWritten s) v → formed s ≡ true → Unambiguous (s .elements)

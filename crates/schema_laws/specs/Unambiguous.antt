@@ -3,19 +3,18 @@ use mathlib.Core.Path.{_≡_, refl, sym, ap, _∙_}
 use mathlib.Core.Logic.{_↔_}
 use mathlib.Core.Bool.{Bool, true, false, not, true≢false, and-eq-true-iff}
 use mathlib.Core.List.{List, [], _∷_, _++_}
-use Prim.Native.Nat.{ℕ}
+use Prim.Native.Nat.{ℕ, _+_}
 use native.Mathlib.Omega.{arith}
 use borrow.Author.Tests.{not-true}
-use Rattle.paper.specs.Basics.{all}
 use Rattle.paper.specs.Expressions.{Expr, Ambiguous}
 use Rattle.paper.specs.Sets.{ambiguous}
 use Rattle.paper.specs.Schema.{Content, empty, text, model, Element}
-use Rattle.paper.specs.SchemaWritten.{formedElement, Unambiguous}
+use Rattle.paper.specs.SchemaWritten.{formedElement, formedElements, Unambiguous}
 use Rattle.content_laws.specs.Decide.{decides}
 use Rattle.basic_laws.specs.Tests.{true-iff}
-use Rattle.paper_laws.specs.Basics.{all-parts}
 use Rattle.schema_laws.specs.Contents.{unambiguous}
-use Rattle.schema_laws.specs.Elements.{fit}
+use Rattle.schema_laws.specs.Rows.{allFrom}
+use Rattle.schema_laws.specs.Elements.{fit, fixes}
 
 -- one model
 pub ambiguous-true : (e : Expr) → (ambiguous e ≡ true) ↔ Ambiguous e
@@ -35,22 +34,27 @@ unambiguous-means (model x) = (to, λ h. go (ambiguous x) refl h)
 
 -- all elements
 module _ (E : ℕ) where
-  formed-all : (l : List Element) → all (fit E) l ≡ true → all (formedElement E) l ≡ true
-  formed-all [] p = refl
-  formed-all (x ∷ l) p =
-      let (f, others) = and-eq-true-iff (fit E x) (all (fit E) l) .0 p in
-      rw (and-eq-true-iff (formedElement E x) (unambiguous (x .content)) .0 f .0) (formed-all l others)
+  abbrev Fit : ℕ → List Element → Bool
+  Fit met l = allFrom (fit E) fixes met l
 
-  unambiguous-one : (u v : List Element) (x : Element) → all (fit E) (u ++ x ∷ v) ≡ true → unambiguous (x .content) ≡ true
-  unambiguous-one u v x p =
-      let (f, others) = and-eq-true-iff (fit E x) (all (fit E) v) .0 (all-parts (fit E) u (x ∷ v) p .1) in
-      and-eq-true-iff (formedElement E x) (unambiguous (x .content)) .0 f .1
+  formed-all : (l : List Element) (met : ℕ) → Fit met l ≡ true → formedElements E met l ≡ true
+  formed-all [] met p = refl
+  formed-all (x ∷ l) met p =
+      let (f, others) = and-eq-true-iff (fit E met x) (Fit (met + fixes x) l) .0 p in
+      rw (and-eq-true-iff (formedElement E met x) (unambiguous (x .content)) .0 f .0) (formed-all l (met + fixes x) others)
 
-  both-fit : (l : List Element) → all (formedElement E) l ≡ true → Unambiguous l → all (fit E) l ≡ true
-  both-fit [] p h = refl
-  both-fit (x ∷ l) p h =
-      let (f, others) = and-eq-true-iff (formedElement E x) (all (formedElement E) l) .0 p in
-      rw (f, unambiguous-means (x .content) .1 (λ e. h [] l x e refl)) (both-fit l others (λ u v y e q. h (x ∷ u) v y e (ap (λ t. x ∷ t) q)))
+  unambiguous-one : (u v : List Element) (x : Element) (met : ℕ) → Fit met (u ++ x ∷ v) ≡ true → unambiguous (x .content) ≡ true
+  unambiguous-one [] v x met p =
+      let (f, others) = and-eq-true-iff (fit E met x) (Fit (met + fixes x) v) .0 p in
+      and-eq-true-iff (formedElement E met x) (unambiguous (x .content)) .0 f .1
+  unambiguous-one (y ∷ u) v x met p = unambiguous-one u v x (met + fixes y) (and-eq-true-iff (fit E met y) (Fit (met + fixes y) (u ++ x ∷ v)) .0 p .1)
 
-  pub fit-all : (l : List Element) → (all (fit E) l ≡ true) ↔ ((all (formedElement E) l ≡ true) × Unambiguous l)
-  fit-all l = (λ p. (formed-all l p, λ u v x e q. unambiguous-means (x .content) .0 (unambiguous-one u v x (rw q at p)) e), λ h. both-fit l (h .0) (h .1))
+  both-fit : (l : List Element) (met : ℕ) → formedElements E met l ≡ true → Unambiguous l → Fit met l ≡ true
+  both-fit [] met p h = refl
+  both-fit (x ∷ l) met p h =
+      let (f, others) = and-eq-true-iff (formedElement E met x) (formedElements E (met + fixes x) l) .0 p in
+      rw (f, unambiguous-means (x .content) .1 (λ e. h [] l x e refl)) (both-fit l (met + fixes x) others (λ u v y e q. h (x ∷ u) v y e (ap (λ t. x ∷ t) q)))
+
+  pub fit-all : (l : List Element) (met : ℕ) → (allFrom (fit E) fixes met l ≡ true) ↔ ((formedElements E met l ≡ true) × Unambiguous l)
+  fit-all l met =
+      (λ p. (formed-all l met p, λ u v x e q. unambiguous-means (x .content) .0 (unambiguous-one u v x met (rw q at p)) e), λ h. both-fit l met (h .0) (h .1))
