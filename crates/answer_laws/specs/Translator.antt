@@ -6,11 +6,11 @@ use mathlib.Core.List.{List, [], _∷_}
 use Prim.Native.Nat.{ℕ, zero, suc, _+_, _-_}
 use lib.Dec.{T, leb, eqb}
 use lib.ListN.{length}
-use Rattle.paper.specs.Basics.{mostElements, mostNames, mostAttributes, between, elem}
+use Rattle.paper.specs.Basics.{mostNumber, mostElements, mostNames, mostAttributes, between, elem}
 use Rattle.paper.specs.Files.{Front, broken, got, front}
 use Rattle.paper.specs.Expressions.{Expr, count}
 use Rattle.paper.specs.Sets.{ambiguous}
-use Rattle.paper.specs.Schema.{mostSymbols, exprOf, model, Schema, Parsed, stop, ok, Reader, pure, refuse, onward, valued, number, numbers, modelled, contentAs, kindAfter, attributesFrom, element, elementsOf, finished, schemaOf}
+use Rattle.paper.specs.Schema.{mostSymbols, exprOf, fixedIn, model, Schema, Parsed, stop, ok, Reader, pure, refuse, onward, valued, number, numbers, modelled, contentAs, kindAfter, mostStatus, valueAfter, attributesFrom, element, elementsOf, finished, schemaOf}
 use Rattle.paper.specs.Table.{tableLength, translated, translate}
 use Rattle.paper.specs.Answers.{Answers, translatorAnswers}
 use Rattle.paper.specs.Calls.{Translates}
@@ -66,26 +66,35 @@ kind-stops had s = then-stops (number 0 3 s) _ (number-stops 0 3 s) (λ k t. go 
     go true k t = tt
     go false k t = tt
 
-attributes-stop : (n low : ℕ) (had : Bool) (s : List ℕ) → Stops (attributesFrom n low had s)
-attributes-stop zero low had s = tt
-attributes-stop (suc n) low had s =
+value-stops : (status : ℕ) (s : List ℕ) → Stops (valueAfter status s)
+value-stops status s = go (eqb status 2)
+  where
+    go : (b : Bool) → Stops (cond b (number 0 mostNumber) (pure 0) s)
+    go true = number-stops 0 mostNumber s
+    go false = tt
+
+attributes-stop : (n low : ℕ) (had : Bool) (met : ℕ) (s : List ℕ) → Stops (attributesFrom n low had met s)
+attributes-stop zero low had met s = tt
+attributes-stop (suc n) low had met s =
     then-stops (number low (mostAttributes - 1) s) _ (number-stops low (mostAttributes - 1) s)
     (λ a t. then-stops (kindAfter had t) _ (kind-stops had t)
-    (λ k u. then-stops (number 0 1 u) _ (number-stops 0 1 u)
-    (λ st v. then-stops (attributesFrom n (suc a) (had || eqb k 1) v) _ (attributes-stop n (suc a) (had || eqb k 1) v) (λ xs w. tt))))
+    (λ k u. then-stops (number 0 (mostStatus k met) u) _ (number-stops 0 (mostStatus k met) u)
+    (λ st v. then-stops (valueAfter st v) _ (value-stops st v)
+    (λ x w. then-stops (attributesFrom n (suc a) (had || eqb k 1) (met + cond (eqb st 2) 1 0) w) _
+    (attributes-stop n (suc a) (had || eqb k 1) (met + cond (eqb st 2) 1 0) w) (λ xs o. tt)))))
 
-element-stops : (E : ℕ) (s : List ℕ) → Stops (element E s)
-element-stops E s =
+element-stops : (E met : ℕ) (s : List ℕ) → Stops (element E met s)
+element-stops E met s =
     then-stops (number 0 2 s) _ (number-stops 0 2 s)
     (λ k t. then-stops (contentAs E k t) _ (content-stops E k t)
     (λ c u. then-stops (number 0 mostAttributes u) _ (number-stops 0 mostAttributes u)
-    (λ n v. then-stops (attributesFrom n 0 false v) _ (attributes-stop n 0 false v) (λ l w. tt))))
+    (λ n v. then-stops (attributesFrom n 0 false met v) _ (attributes-stop n 0 false met v) (λ l w. tt))))
 
-elements-stop : (n E : ℕ) (s : List ℕ) → Stops (elementsOf n E s)
-elements-stop zero E s = tt
-elements-stop (suc n) E s =
-    then-stops (element E s) _ (element-stops E s)
-    (λ x t. then-stops (elementsOf n E t) _ (elements-stop n E t) (λ xs u. tt))
+elements-stop : (n E met : ℕ) (s : List ℕ) → Stops (elementsOf n E met s)
+elements-stop zero E met s = tt
+elements-stop (suc n) E met s =
+    then-stops (element E met s) _ (element-stops E met s)
+    (λ x t. then-stops (elementsOf n E (met + fixedIn (x .attributes)) t) _ (elements-stop n E (met + fixedIn (x .attributes)) t) (λ xs u. tt))
 
 finished-stops : (x : Schema) (s : List ℕ) → Stops (finished x s)
 finished-stops x [] = tt
@@ -96,7 +105,7 @@ unfolding schemaOf
 schema-stops file =
     then-stops (number 1 mostElements file) _ (number-stops 1 mostElements file)
     (λ E t. then-stops (number 0 (E - 1) t) _ (number-stops 0 (E - 1) t)
-    (λ root u. then-stops (elementsOf E E u) _ (elements-stop E E u)
+    (λ root u. then-stops (elementsOf E E 0 u) _ (elements-stop E E 0 u)
     (λ l v. finished-stops (record { root = root; elements = l }) v)))
 
 pub translate-answers : (file table : List ℕ) (o : ℕ × List ℕ) → Translates file table o → Answers translatorAnswers (o .0) 0

@@ -9,11 +9,11 @@ use native.Mathlib.Omega.{arith}
 use borrow.Author.Tests.{eq-eqb, eqb-true}
 use lib.Dec.{T, eqb}
 use lib.ListN.{length}
-use Rattle.paper.specs.Basics.{some-of}
-use Rattle.paper.specs.Schema.{Attribute}
-use Rattle.paper.specs.Rules.{has}
+use Rattle.paper.specs.Basics.{some-of, firstWith}
+use Rattle.paper.specs.Schema.{Attribute, isFixed}
+use Rattle.paper.specs.Rules.{has, fixedTo}
 use Rattle.paper.specs.Dtd.Letters.{Name, same, among}
-use Rattle.paper.specs.Dtd.Declarations.{Content, Definition, Declaration, definedFor, attributeNames}
+use Rattle.paper.specs.Dtd.Declarations.{Content, Status, required, implied, Definition, Declaration, definedFor, attributeNames}
 use Rattle.paper.specs.Dtd.Numbering.{numberIn, kindNumber, statusNumber, definitionOf, attributeFor, attributesFrom}
 use Rattle.paper.specs.Dtd.Limits.{different}
 use Rattle.basic_laws.specs.Bools.{clash, both, either, neither}
@@ -49,7 +49,7 @@ definition-there (c ∷ u) v d p = let (a, b) = neither (same (d .name) (c .name
 
 -- the attribute that a definition makes
 abbrev pub attribute : ℕ → Definition → Attribute
-attribute i d = record { number = i; kind = kindNumber (d .kind); status = statusNumber (d .status) }
+attribute i d = record { number = i; kind = kindNumber (d .kind); status = statusNumber (d .status); value = 0 }
 
 or-right : (x y : Bool) → y ≡ true → (x || y) ≡ true
 or-right true y p = refl
@@ -121,6 +121,29 @@ module _ (P : Attribute → Bool) (a : ℕ) (own : List Definition) where
           → some-of hit (attributeFor i (definitionOf m own) ++ attributesFrom (suc i) l own) ≡ true
       by true r p e go = front (definitionOf m own) (subst (λ z. definitionOf z own ≡ some d) (same-true n m r) q) (omega arith)
       by false r p e go = behind (definitionOf m own) (go p q (omega arith) s)
+
+-- ---- none is fixed
+
+not-fixed : (i : ℕ) (d : Definition) → isFixed (attribute i d) ≡ false
+not-fixed i d = go (d .status)
+  where
+    go : (s : Status) → eqb (statusNumber s) 2 ≡ false
+    go required = refl
+    go implied = refl
+
+none-fixed : (own : List Definition) (a i : ℕ) (l : List Name)
+    → firstWith (λ y. isFixed y && eqb a (y .number)) (λ y. y .value) (attributesFrom i l own) ≡ none
+none-fixed own a i [] = refl
+none-fixed own a i (n ∷ l) = by (definitionOf n own) (none-fixed own a (suc i) l)
+  where
+    by : (o : Option Definition) → firstWith (λ y. isFixed y && eqb a (y .number)) (λ y. y .value) (attributesFrom (suc i) l own) ≡ none
+        → firstWith (λ y. isFixed y && eqb a (y .number)) (λ y. y .value) (attributeFor i o ++ attributesFrom (suc i) l own) ≡ none
+    by none h = h
+    by (some d) h = rw (not-fixed i d) h
+
+-- An element of the schema of a text has no fixed attribute.
+pub text-fixes-none : (ds : List Declaration) (n : Name) (c : Content) (a : ℕ) → fixedTo (made ds n c) a ≡ none
+text-fixes-none ds n c a = none-fixed (definedFor n ds) a 0 (attributeNames ds)
 
 -- ---- told from the text
 

@@ -7,12 +7,12 @@ use mathlib.Core.List.{List, [], _∷_, _++_, map}
 use Prim.Native.Nat.{ℕ, suc, _+_, _≤_}
 use native.Mathlib.Omega.{arith}
 use borrow.Author.Tests.{le-leb, not-true}
-use lib.Dec.{leb, ltb, eqb}
+use lib.Dec.{leb, ltb, eqb, leb·zero}
 use lib.ListN.{length}
-use Rattle.paper.specs.Basics.{mostElements, mostNames, mostAttributes, all, null, some-of}
+use Rattle.paper.specs.Basics.{mostElements, mostNames, mostAttributes, mostFixed, all, null, some-of}
 use Rattle.paper.specs.Expressions.{count}
-use Rattle.paper.specs.Schema.{symbolsOf, mostSymbols}
-use Rattle.paper.specs.SchemaWritten.{formedAttributes, formedContent, formedElement, formed}
+use Rattle.paper.specs.Schema.{symbolsOf, mostSymbols, fixedIn, mostStatus, mostValue}
+use Rattle.paper.specs.SchemaWritten.{formedAttributes, formedContent, formedElement, formedElements, formed}
 use Rattle.paper.specs.Dtd.Letters.{Name, same, among}
 use Rattle.paper.specs.Dtd.Declarations.{each, Content, empty, text, model, Kind, cdata, id, idref, idrefs, Status, required, implied}
 use Rattle.paper.specs.Dtd.Declarations.{Definition, Declaration, element, attlist, elementNames, definedFor, defined, attributeNames, isId}
@@ -88,14 +88,19 @@ module _ (own : List Definition) (one : oneId own ≡ true) where
   kind-low idref = refl
   kind-low idrefs = refl
 
-  status-low : (k : Status) → leb (statusNumber k) 1 ≡ true
-  status-low required = refl
-  status-low implied = refl
+  status-low : (k : Status) (kind met : ℕ) → leb (statusNumber k) (mostStatus kind met) ≡ true
+  status-low k kind met = go k (eqb kind 0 && ltb met mostFixed)
+    where
+      go : (k : Status) (b : Bool) → leb (statusNumber k) (cond b 2 1) ≡ true
+      go required true = refl
+      go required false = refl
+      go implied true = refl
+      go implied false = refl
 
-  attributes-formed : (l : List Name) (low i : ℕ) (had : Bool) → low ≤ i → i + length l ≤ mostAttributes → different l ≡ true → (had ≡ true → noIds l ≡ true)
-      → formedAttributes low had (attributesFrom i l own) ≡ true
-  attributes-formed [] low i had h k o f = refl
-  attributes-formed (n ∷ l) low i had h k o f = by (definitionOf n own) refl (attributes-formed l)
+  attributes-formed : (l : List Name) (low i : ℕ) (had : Bool) (met : ℕ) → low ≤ i → i + length l ≤ mostAttributes → different l ≡ true → (had ≡ true → noIds l ≡ true)
+      → formedAttributes low had met (attributesFrom i l own) ≡ true
+  attributes-formed [] low i had met h k o f = refl
+  attributes-formed (n ∷ l) low i had met h k o f = by (definitionOf n own) refl (attributes-formed l)
     where
       fresh : among n l ≡ false
       fresh = not-true (among n l) (and-eq-true-iff (not (among n l)) (different l) .0 o .0)
@@ -117,14 +122,14 @@ module _ (own : List Definition) (one : oneId own ≡ true) where
       later d e false false p q r = clash r refl
 
       by : (x : Option Definition) → definitionOf n own ≡ x
-          → ((low i : ℕ) (had : Bool) → low ≤ i → i + length l ≤ mostAttributes → different l ≡ true → (had ≡ true → noIds l ≡ true)
-          → formedAttributes low had (attributesFrom i l own) ≡ true)
-          → formedAttributes low had (attributeFor i x ++ attributesFrom (suc i) l own) ≡ true
-      by none p go = go low (suc i) had (omega arith) (omega arith) rest behind
+          → ((low i : ℕ) (had : Bool) (met : ℕ) → low ≤ i → i + length l ≤ mostAttributes → different l ≡ true → (had ≡ true → noIds l ≡ true)
+          → formedAttributes low had met (attributesFrom i l own) ≡ true)
+          → formedAttributes low had met (attributeFor i x ++ attributesFrom (suc i) l own) ≡ true
+      by none p go = go low (suc i) had met (omega arith) (omega arith) rest behind
       by (some d) p go =
           let e = definition-id n own d p in
-          rw (le-leb low i h, le-leb i 63 (omega arith), kind-low (d .kind), kind-id d, no-second d e had (isId d) refl refl, status-low (d .status))
-          (go (suc i) (suc i) (had || isId d) (omega arith) (omega arith) rest (later d e had (isId d) refl refl))
+          rw (le-leb low i h, le-leb i 63 (omega arith), kind-low (d .kind), kind-id d, no-second d e had (isId d) refl refl, status-low (d .status) (kindNumber (d .kind)) met, leb·zero (mostValue (statusNumber (d .status))))
+          (go (suc i) (suc i) (had || isId d) (met + cond (eqb (statusNumber (d .status)) 2) 1 0) (omega arith) (omega arith) rest (later d e had (isId d) refl refl))
 
   attributes-few : (i : ℕ) (l : List Name) → length (attributesFrom i l own) ≤ length l
   attributes-few i [] = omega arith
@@ -161,22 +166,22 @@ module _ (ds : List Declaration) (keeps : kept (isDeclared ds) [] ds ≡ true) w
         each-implies (isDeclared ds) (λ n. ltb (number n) (length (elementNames ds))) (number-below (elementNames ds)) p a,
       )
 
-  element-formed : (n : Name) (c : Content) → contentKept (modelKept (isDeclared ds)) c ≡ true
-      → formedElement (length (elementNames ds)) (record { content = contentOf number c; attributes = attributesFrom 0 (attributeNames ds) (definedFor n ds) }) ≡ true
-  element-formed n c k =
+  element-formed : (met : ℕ) (n : Name) (c : Content) → contentKept (modelKept (isDeclared ds)) c ≡ true
+      → formedElement (length (elementNames ds)) met (record { content = contentOf number c; attributes = attributesFrom 0 (attributeNames ds) (definedFor n ds) }) ≡ true
+  element-formed met n c k =
       let one = one-id n (isDeclared ds) ds keeps in
       let few = few-attributes (isDeclared ds) ds keeps in
       let less = attributes-few (definedFor n ds) one 0 (attributeNames ds) in
       rw (content-formed c k, le-leb (length (attributesFrom 0 (attributeNames ds) (definedFor n ds))) mostAttributes (omega arith))
-      (attributes-formed (definedFor n ds) one (attributeNames ds) 0 0 false (omega arith) (omega arith) (firsts-different [] (map (λ (d : Definition). d .name) (defined ds))) (λ e. clash e refl))
+      (attributes-formed (definedFor n ds) one (attributeNames ds) 0 0 false met (omega arith) (omega arith) (firsts-different [] (map (λ (d : Definition). d .name) (defined ds))) (λ e. clash e refl))
 
-  elements-formed : (l : List Declaration) → all (declarationGood (isDeclared ds)) l ≡ true
-      → all (formedElement (length (elementNames ds))) (elementsFrom ds l) ≡ true
-  elements-formed [] k = refl
-  elements-formed (element n c ∷ l) k =
+  elements-formed : (l : List Declaration) (met : ℕ) → all (declarationGood (isDeclared ds)) l ≡ true
+      → formedElements (length (elementNames ds)) met (elementsFrom ds l) ≡ true
+  elements-formed [] met k = refl
+  elements-formed (element n c ∷ l) met k =
       let (a, b) = and-eq-true-iff (contentKept (modelKept (isDeclared ds)) c) (all (declarationGood (isDeclared ds)) l) .0 k in
-      rw (element-formed n c a) (elements-formed l b)
-  elements-formed (attlist e x ∷ l) k = elements-formed l (and-eq-true-iff (isDeclared ds e) (all (declarationGood (isDeclared ds)) l) .0 k .1)
+      rw (element-formed met n c a) (elements-formed l (met + fixedIn (attributesFrom 0 (attributeNames ds) (definedFor n ds))) b)
+  elements-formed (attlist e x ∷ l) met k = elements-formed l met (and-eq-true-iff (isDeclared ds e) (all (declarationGood (isDeclared ds)) l) .0 k .1)
 
 -- The schema of a text that is taken keeps to document 01's limits.
 pub schema-formed : (s : List ℕ) (ds : List Declaration) → Taken s ds → formed (schemaFor ds) ≡ true
@@ -184,7 +189,7 @@ schema-formed s ds t =
     let few = few-elements (isDeclared ds) [] ds (omega arith) (t .keeps) in
     let more = some-length (elementNames ds) (t .some-element) in
     rw (elements-length ds (t .keeps) ds, le-leb 1 (length (elementNames ds)) more, le-leb (length (elementNames ds)) mostElements few)
-    (elements-formed ds (t .keeps) ds (good-kept (isDeclared ds) [] ds (t .keeps)))
+    (elements-formed ds (t .keeps) ds 0 (good-kept (isDeclared ds) [] ds (t .keeps)))
   where
     some-length : (l : List Name) → null l ≡ false → 1 ≤ length l
     some-length [] p = clash refl p

@@ -24,13 +24,14 @@ use Rattle.dtd_schema_laws.specs.Bytes.{file-bytes}
 -- ---- the first ambiguous model, if there is one
 
 module _ (E : ℕ) where
-  record First (l : List Element) : Type 0 where
+  -- behind `met` fixed attributes
+  record First (met : ℕ) (l : List Element) : Type 0 where
     pub before : List Element
     pub x : Element
     pub behind : List Element
     pub e : Expr
     pub split : l ≡ before ++ x ∷ behind
-    pub good : all (fit E) before ≡ true
+    pub good : allFrom (fit E) fixes met before ≡ true
     pub here : x .content ≡ model e
     pub tangled : ambiguous e ≡ true
 
@@ -39,13 +40,16 @@ module _ (E : ℕ) where
   tangled-model text p = let z : true ≡ false = p in absurd (true≢false z)
   tangled-model (model e) p = (e, refl, not-false (ambiguous e) p)
 
-  find : (l : List Element) → all (formedElement E) l ≡ true → (all (fit E) l ≡ true) ⊎ First l
-  find [] k = inl refl
-  find (x ∷ l) k =
-      let (a, b) = and-eq-true-iff (formedElement E x) (all (formedElement E) l) .0 k in
-      by (unambiguous (x .content)) refl a (find l b)
+  abbrev Fits : ℕ → List Element → Type 0
+  Fits met l = (allFrom (fit E) fixes met l ≡ true) ⊎ First met l
+
+  find : (l : List Element) (met : ℕ) → formedElements E met l ≡ true → Fits met l
+  find [] met k = inl refl
+  find (x ∷ l) met k =
+      let (a, b) = and-eq-true-iff (formedElement E met x) (formedElements E (met + fixes x) l) .0 k in
+      by (unambiguous (x .content)) refl a (find l (met + fixes x) b)
     where
-      by : (y : Bool) → unambiguous (x .content) ≡ y → formedElement E x ≡ true → (all (fit E) l ≡ true) ⊎ First l → (all (fit E) (x ∷ l) ≡ true) ⊎ First (x ∷ l)
+      by : (y : Bool) → unambiguous (x .content) ≡ y → formedElement E met x ≡ true → Fits (met + fixes x) l → Fits met (x ∷ l)
       by true p f (inl q) = inl (rw (f, p, q))
       by true p f (inr r) = inr (record {
         before = x ∷ r .before;
@@ -62,10 +66,13 @@ module _ (E : ℕ) where
           inr (record { before = []; x = x; behind = l; e = e; split = refl; good = refl; here = i; tangled = j })
 
 -- the model of an element within the limits
-content-part : (E : ℕ) (x : Element) (e : Expr) → x .content ≡ model e → formedElement E x ≡ true → formedModel E e ≡ true
-content-part E x e p f =
-    let (a, b) = and-eq-true-iff (formedContent E (x .content) && leb (length (x .attributes)) mostAttributes) (formedAttributes 0 false (x .attributes)) .0 f in
+content-part : (E met : ℕ) (u v : List Element) (x : Element) (e : Expr) → x .content ≡ model e → formedElements E met (u ++ x ∷ v) ≡ true → formedModel E e ≡ true
+content-part E met [] v x e p f =
+    let own = and-eq-true-iff (formedElement E met x) (formedElements E (met + fixes x) v) .0 f .0 in
+    let (a, b) = and-eq-true-iff (formedContent E (x .content) && leb (length (x .attributes)) mostAttributes) (formedAttributes 0 false met (x .attributes)) .0 own in
     rw p at (and-eq-true-iff (formedContent E (x .content)) (leb (length (x .attributes)) mostAttributes) .0 a .0)
+content-part E met (y ∷ u) v x e p f =
+    content-part E (met + fixes y) u v x e p (and-eq-true-iff (formedElement E met y) (formedElements E (met + fixes y) (u ++ x ∷ v)) .0 f .1)
 
 -- ---- the file up to it
 
@@ -90,14 +97,12 @@ written-split u v x e p =
     ∙ ap (λ c. contentWritten c ++ behindIt x v) p)
     ∙ sym (append-assoc (concat (map elementWritten u)) (contentWritten (model e)) (behindIt x v))
 
-meets : (s : Schema) → formed s ≡ true → First (length (s .elements)) (s .elements) → MeetsAmbiguous (fileOf (schemaWritten s))
+meets : (s : Schema) → formed s ≡ true → First (length (s .elements)) 0 (s .elements) → MeetsAmbiguous (fileOf (schemaWritten s))
 meets s f r =
     let E : ℕ = length (s .elements) in
-    let (q, forms) = and-eq-true-iff (between 1 mostElements E && ltb (s .root) E) (all (formedElement E) (s .elements)) .0 f in
+    let (q, forms) = and-eq-true-iff (between 1 mostElements E && ltb (s .root) E) (formedElements E 0 (s .elements)) .0 f in
     let (some, low) = and-eq-true-iff (between 1 mostElements E) (ltb (s .root) E) .0 q in
-    let (good, clear) = fit-all E (r .before) .0 (r .good) in
-    let behind = all-parts (formedElement E) (r .before) (r .x ∷ r .behind) (rw (← r .split) forms) .1 in
-    let own = and-eq-true-iff (formedElement E (r .x)) (all (formedElement E) (r .behind)) .0 behind .0 in
+    let (good, clear) = fit-all E (r .before) 0 .0 (r .good) in
     record {
       E = E;
       root = s .root;
@@ -109,7 +114,7 @@ meets s f r =
       room = let l = ap length (r .split) ∙ length-append (r .before) (r .x ∷ r .behind) in omega arith;
       before-formed = good;
       before-clear = clear;
-      model-formed = content-part E (r .x) (r .e) (r .here) own;
+      model-formed = content-part E 0 (r .before) (r .behind) (r .x) (r .e) (r .here) (rw (← r .split) forms);
       ambiguous = ambiguous-true (r .e) .0 (r .tangled);
       begins =
           ap (λ t. fileOf (E ∷ s .root ∷ t))
@@ -135,13 +140,13 @@ pub data Comes (s : Schema) : Type 0 where
   refuses : Tangle s → schemaOf (fileOf (schemaWritten s)) ≡ stop 3 → Comes s
 
 pub file-comes : (s : Schema) → formed s ≡ true → Comes s
-file-comes s f = by (find (length (s .elements)) (s .elements) forms)
+file-comes s f = by (find (length (s .elements)) (s .elements) 0 forms)
   where
-    forms : all (formedElement (length (s .elements))) (s .elements) ≡ true
-    forms = and-eq-true-iff (between 1 mostElements (length (s .elements)) && ltb (s .root) (length (s .elements))) (all (formedElement (length (s .elements))) (s .elements)) .0 f .1
+    forms : formedElements (length (s .elements)) 0 (s .elements) ≡ true
+    forms = and-eq-true-iff (between 1 mostElements (length (s .elements)) && ltb (s .root) (length (s .elements))) (formedElements (length (s .elements)) 0 (s .elements)) .0 f .1
 
-    by : (all (fit (length (s .elements))) (s .elements) ≡ true) ⊎ First (length (s .elements)) (s .elements) → Comes s
-    by (inl p) = let (_, h) = fit-all (length (s .elements)) (s .elements) .0 p in reads h (taken-whole s f h)
+    by : Fits (length (s .elements)) 0 (s .elements) → Comes s
+    by (inl p) = let (_, h) = fit-all (length (s .elements)) (s .elements) 0 .0 p in reads h (taken-whole s f h)
     by (inr r) =
         refuses
         (record { before = r .before; x = r .x; behind = r .behind; e = r .e; split = r .split; here = r .here; tangled = ambiguous-true (r .e) .0 (r .tangled) })

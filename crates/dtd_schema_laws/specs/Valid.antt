@@ -146,8 +146,12 @@ module _ (s : List ℕ) (ds : List Declaration) (taken : Taken s ds) where
         allowed = λ u r a p. allowed-meant a .1 (v .allowed u r a p);
         required = λ a t. v .required a (required-meant a .0 t);
         single = λ u r a p. elim (v .single u r a p) [ inl d ↦ inl (idrefs-meant a .1 d) | inr q ↦ inr q ];
+        fixed = λ u r a w p q. none-fixed (sym (ap (λ x. fixedTo x a) (element-of ds i e) ∙ text-fixes-none ds (e .name) (e .content) a) ∙ q);
       },
     )
+      where
+        none-fixed : {A : Type 0} {w : ℕ} → none ≡ some w → A
+        none-fixed q = let z : _≡_ {A = ℕ} 0 1 = cc in absurd (omega arith)
 
   -- ---- IDs and references
 
