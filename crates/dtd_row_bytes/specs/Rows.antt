@@ -34,7 +34,7 @@ abbrev pub statusIn : Row → ℕ → ℕ
 statusIn r k = statusBy (bit (r .required) k)
 
 abbrev pub attributeIn : Row → ℕ → Attribute
-attributeIn r k = record { number = k; kind = kindIn r k; status = statusIn r k }
+attributeIn r k = record { number = k; kind = kindIn r k; status = statusIn r k; value = 0 }
 
 -- attributes in a row, and their count before them
 abbrev pub attributesWritten : List Attribute → List ℕ

@@ -48,14 +48,14 @@ module _ (r : Row) (own : List Definition) where
 
   -- one that is defined
   one : (i : ℕ) (n : Name) (l : List Name) (d : Definition) → definitionOf n own ≡ some d → Told i (n ∷ l)
-      → attributeIn r i ≡ record { number = i; kind = kindNumber (d .kind); status = statusNumber (d .status) }
+      → attributeIn r i ≡ record { number = i; kind = kindNumber (d .kind); status = statusNumber (d .status); value = 0 }
   one i n l d e t =
       let z : i ≡ i + 0 = omega arith in
       let a : bit (r .required) i ≡ isRequired d = ap (bit (r .required)) z ∙ t .required 0 ∙ ap (holds isRequired) e in
       let b : bit (r .id) i ≡ ofKind 1 d = ap (bit (r .id)) z ∙ t .id 0 ∙ ap (holds (ofKind 1)) e in
       let c : bit (r .idref) i ≡ ofKind 2 d = ap (bit (r .idref)) z ∙ t .idref 0 ∙ ap (holds (ofKind 2)) e in
       let f : bit (r .idrefs) i ≡ ofKind 3 d = ap (bit (r .idrefs)) z ∙ t .idrefs 0 ∙ ap (holds (ofKind 3)) e in
-      ap₂ (λ k s. record { number = i; kind = k; status = s }) (rw (b, c, f) (kind-back (d .kind))) (rw a (status-back (d .status)))
+      ap₂ (λ k s. record { number = i; kind = k; status = s; value = 0 }) (rw (b, c, f) (kind-back (d .kind))) (rw a (status-back (d .status)))
 
   none-left : (n i w : ℕ) → ((j : ℕ) → bit w j ≡ false) → chosen w (from i n) ≡ []
   none-left zero i w h = refl

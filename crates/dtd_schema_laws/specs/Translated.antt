@@ -3,20 +3,20 @@ use mathlib.Core.Path.{_≡_, refl, sym, ap, _∙_}
 use mathlib.Core.Logic.{_⊎_, inl, inr}
 use mathlib.Core.Bool.{Bool, true, false, _&&_, true≢false, and-eq-true-iff}
 use mathlib.Core.List.{List, [], _∷_, _++_, map, map-append, append-assoc}
-use Prim.Native.Nat.{ℕ}
+use Prim.Native.Nat.{ℕ, _+_}
 use native.Mathlib.Omega.{arith}
 use borrow.Author.Tests.{ltb-true, not-false}
 use lib.Dec.{leb, ltb}
 use lib.ListN.{length, length-append}
-use Rattle.paper.specs.Basics.{mostElements, mostAttributes, between, all, concat}
+use Rattle.paper.specs.Basics.{mostElements, mostAttributes, between, concat}
 use Rattle.paper.specs.Files.{bytesOf, fileOf}
 use Rattle.paper.specs.Expressions.{Expr, Ambiguous}
 use Rattle.paper.specs.Sets.{ambiguous}
 use Rattle.paper.specs.Schema.{Content, empty, text, model, Element, Schema, stop, ok, schemaOf}
-use Rattle.paper.specs.SchemaWritten.{attributeWritten, contentWritten, elementWritten, schemaWritten, formedModel, formedContent, formedAttributes, formedElement, formed, Unambiguous, MeetsAmbiguous}
-use Rattle.paper_laws.specs.Basics.{all-parts}
+use Rattle.paper.specs.SchemaWritten.{attributeWritten, contentWritten, elementWritten, schemaWritten, formedModel, formedContent, formedAttributes, formedElement, formedElements, formed, Unambiguous, MeetsAmbiguous}
 use Rattle.schema_laws.specs.Contents.{unambiguous}
-use Rattle.schema_laws.specs.Elements.{fit}
+use Rattle.schema_laws.specs.Rows.{allFrom}
+use Rattle.schema_laws.specs.Elements.{fit, fixes}
 use Rattle.schema_laws.specs.Unambiguous.{ambiguous-true, fit-all}
 use Rattle.schema_laws.specs.Taken.{taken-whole, ambiguous-exactly}
 use Rattle.dtd_schema_laws.specs.Bytes.{file-bytes}

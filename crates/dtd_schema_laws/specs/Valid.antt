@@ -1,10 +1,12 @@
 -- A document is valid by the schema of a text exactly if it is valid by the text: "the translated table then judges by the text's own
 -- expressions". Assumes nothing.
-use mathlib.Core.Path.{_≡_, refl, sym, ap, subst}
+use mathlib.Core.Path.{_≡_, refl, sym, ap, subst, _∙_}
 use mathlib.Core.Logic.{_↔_, _⊎_, inl, inr, Iff·trans}
 use mathlib.Core.Bool.{Bool, true}
+use mathlib.Core.Option.{none, some}
 use mathlib.Core.List.{List, [], _∷_, _++_}
 use Prim.Native.Nat.{ℕ, zero}
+use native.Mathlib.Omega.{arith}
 use lib.Dec.{T, eqb}
 use lib.ListN.{take}
 use Rattle.paper.specs.declared.Tok.{Tok}
@@ -13,7 +15,7 @@ use Rattle.paper.specs.Schema.{Attribute, Schema}
 use Rattle.paper.specs.Table.{ofKind, isRequired}
 use Rattle.paper.specs.Tokens.{toks, heads, kids, values}
 use Rattle.paper.specs.Shape.{shapeOf}
-use Rattle.paper.specs.Rules.{undeclared, elementAt, has}
+use Rattle.paper.specs.Rules.{undeclared, elementAt, has, fixedTo}
 use Rattle.paper.specs.Validity.{AttributesValid, StandsAt, IsId, IsReference, Valid, ValidDocument}
 use Rattle.paper.specs.Dtd.Letters.{Name}
 use Rattle.paper.specs.Dtd.Declarations.{Kind, cdata, id, idref, idrefs, Status, required, implied, Definition, Declaration}
@@ -21,7 +23,7 @@ use Rattle.paper.specs.Dtd.Numbering.{kindNumber, statusNumber, schemaFor}
 use Rattle.basic_laws.specs.Bools.{clash}
 use Rattle.dtd_laws.specs.Taken.{Taken}
 use Rattle.dtd_schema_laws.specs.ByText.{DeclaredAt, declared-or, ContentMeant, element-of, element-by-text}
-use Rattle.dtd_schema_laws.specs.Attributes.{attribute, Defines, has-by-text}
+use Rattle.dtd_schema_laws.specs.Attributes.{attribute, text-fixes-none, Defines, has-by-text}
 
 -- ---- what the text says of a document
 
