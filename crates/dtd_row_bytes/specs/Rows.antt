@@ -5,9 +5,9 @@ use mathlib.Core.List.{List, [], _∷_, map}
 use Prim.Native.Nat.{ℕ, _*_, _≤_, _<_}
 use native.Mathlib.Omega.{arith}
 use borrow.Author.Tests.{ltb-true, lt-ltb}
-use lib.Dec.{ltb}
+use lib.Dec.{ltb, eqb}
 use lib.ListN.{length, length-map}
-use Rattle.paper.specs.Basics.{all, concat, mostAttributes}
+use Rattle.paper.specs.Basics.{all, consIf, concat, mostAttributes}
 use Rattle.paper.specs.Files.{fileOf}
 use Rattle.paper.specs.Schema.{Attribute}
 use Rattle.paper.specs.SchemaWritten.{attributeWritten}
@@ -53,9 +53,14 @@ rowWritten r = attributesWritten (attributesOf r (r .allowed))
 
 -- ---- how long it is, and that each number is one byte
 
+-- none is fixed, so no value follows
+pub no-value : (x : Bool) → consIf {A = ℕ} (eqb (statusBy x) 2) 0 [] ≡ []
+no-value true = refl
+no-value false = refl
+
 written-length : (r : Row) (l : List ℕ) → length (concat (map attributeWritten (map (attributeIn r) l))) ≡ length l * 3
 written-length r [] = refl
-written-length r (k ∷ l) = omega (arith, written-length r l)
+written-length r (k ∷ l) = rw (no-value (bit (r .required) k)) (omega (arith, written-length r l))
 
 pub row-short : (r : Row) → length (rowWritten r) ≤ 193
 unfolding rowWritten
@@ -76,7 +81,7 @@ written-small r [] h = refl
 written-small r (k ∷ l) h =
     let (a, b) = and-eq-true-iff (ltb k mostAttributes) (all (λ k. ltb k mostAttributes) l) .0 h in
     let i : k < mostAttributes = ltb-true k mostAttributes a in
-    rw (lt-ltb k 128 (omega arith), kind-small (bit (r .id) k) (bit (r .idref) k) (bit (r .idrefs) k), status-small (bit (r .required) k)) (written-small r l b)
+    rw (lt-ltb k 128 (omega arith), kind-small (bit (r .id) k) (bit (r .idref) k) (bit (r .idrefs) k), status-small (bit (r .required) k), no-value (bit (r .required) k)) (written-small r l b)
 
 pub row-file : (r : Row) → fileOf (rowWritten r) ≡ rowWritten r
 unfolding rowWritten

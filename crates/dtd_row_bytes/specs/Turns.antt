@@ -15,7 +15,7 @@ use Rattle.lines.specs.Putting.{Putting, putting-none, putting-more, putting-al
 use Rattle.sets.specs.Lowest.{cleared, turn}
 use Rattle.dtd_rows.specs.declared.Row.{Row}
 use Rattle.dtd_row_bytes.specs.Members.{membersTo, members-none, members-next, members-count}
-use Rattle.dtd_row_bytes.specs.Rows.{kindIn, statusIn, attributeIn, attributesOf, rowFrom, rowWritten}
+use Rattle.dtd_row_bytes.specs.Rows.{kindIn, statusIn, attributeIn, attributesOf, rowFrom, rowWritten, no-value}
 
 -- ---- one attribute, by the sets that it is in
 
@@ -44,7 +44,7 @@ module _ (r : Row) (k : ℕ) where
 
   pub attribute-put : (s : List ℕ) (at b c : ℕ) → at + 3 ≤ length s → b ≡ kindIn r k → c ≡ statusIn r k
       → Put s at (attributeWritten (attributeIn r k)) (at + 3) (set (set (set s at k) (at + 1) b) (at + 2) c)
-  attribute-put s at b c h p q = rw (p, q) (record { place = refl; within = h; bytes = rw (add-one at, add-two at) })
+  attribute-put s at b c h p q = rw (p, q, no-value (bit (r .required) k)) (record { place = refl; within = h; bytes = rw (add-one at, add-two at) })
 
 -- ---- all of them
 

@@ -1,0 +1,2 @@
+-- The entries that a slice holds, and one more
+pub mod Held
