@@ -1,3 +1,5 @@
+-- Its status and value
+pub mod Status
 -- One attribute
 pub mod Attribute
 -- Several, and their sets

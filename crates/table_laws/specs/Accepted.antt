@@ -87,7 +87,7 @@ Fixes [] = Unit {0}
 Fixes (y ∷ l) = FixedFine y × Fixes l
 
 -- a fixed one was met where there was room for it
-status-good : (k met st : ℕ) → st ≤ mostStatus k met → eqb st 2 ≡ true → (k ≡ 0) × (met < mostFixed)
+pub status-good : (k met st : ℕ) → st ≤ mostStatus k met → eqb st 2 ≡ true → (k ≡ 0) × (met < mostFixed)
 status-good k met st h e = go (eqb k 0) (ltb met mostFixed) refl refl h
   where
     go : (a b : Bool) → eqb k 0 ≡ a → ltb met mostFixed ≡ b → st ≤ cond (a && b) 2 1 → (k ≡ 0) × (met < mostFixed)

@@ -28,8 +28,8 @@ no-attribute-requires-3 c κs = search needs
 returns-3 : tie.Need-returns-3
 returns-3 c = search attribute-second
 
-number-in-requires-3 : tie.Need-number-in-requires-3
-number-in-requires-3 c κs = search needs
+status-at-requires : tie.Need-status-at-requires
+status-at-requires c κs = search needs
 
 no-attribute-requires-4 : tie.Need-no-attribute-requires-4
 no-attribute-requires-4 c κs = search needs
@@ -52,7 +52,7 @@ attribute-at-spec =
     returns-2
     no-attribute-requires-3
     returns-3
-    number-in-requires-3
+    status-at-requires
     no-attribute-requires-4
     returns-4
     returns-5)
