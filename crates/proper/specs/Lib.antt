@@ -1,6 +1,4 @@
 -- The test of a table, part by part.
-pub mod Rest
-pub mod Union
 pub mod Attributes
 pub mod Model
 pub mod Block

@@ -15,7 +15,7 @@ use Rattle.sets.specs.Chosen.{small}
 use Rattle.basic_laws.specs.Bools.{clash, same-test, fails}
 use Rattle.table_laws.specs.Parts.{model-parts}
 use Rattle.ambiguity.specs.Unambiguous.{isUnambiguous, Bounded}
-use Rattle.proper.specs.Union.{union, or-lowest, union-lowest}
+use Rattle.zeros.specs.Union.{union, or-lowest, union-lowest}
 
 -- what is asked of a model of n occurrences, but for two of one name
 unfoldable pub ranged : ℕ → List ℕ → ℕ → Bool

@@ -8,9 +8,9 @@ use native.Mathlib.Omega.{arith}
 use borrow.Author.Tests.{lt-ltb, eq-eqb, le-leb, not-true, not-false}
 use lib.Dec.{eqb}
 use lib.ListN.{length, take, drop, getD, drop-of-length-le}
-use lib.Seq.{drop-drop}
+use lib.Seq.{drop-drop, length-take-le}
 use Rattle.paper.specs.Basics.{mostElements, every}
-use Rattle.paper.specs.Table.{tableLength, blockLength, block, zeros, properBlock, proper}
+use Rattle.paper.specs.Table.{tableLength, blockLength, fixedAt, block, fixedPart, zeros, properBlock, properFixed, proper}
 use Rattle.basic_laws.specs.Bools.{clash, fails}
 use Rattle.paper_laws.specs.Basics.{every-iff}
 use Rattle.table_laws.specs.Parts.{table-parts}
@@ -49,7 +49,7 @@ module _ (t : List ℕ) (E e : ℕ) (p : Passing t E e) where
 
 -- those from e on are 0
 abbrev pub restZero : List ℕ → ℕ → Bool
-restZero t e = zeros (drop (2 + e * blockLength) t)
+restZero t e = zeros (drop (2 + e * blockLength) (take fixedAt t))
 
 -- those from E up to e are
 pub record Unused (t : List ℕ) (E e : ℕ) : Type 0 where
@@ -63,7 +63,8 @@ module _ (t : List ℕ) (E e : ℕ) (p : Unused t E e) where
   pub unused-all : length t ≡ tableLength → mostElements ≤ e → true ≡ restZero t E
   unused-all long h =
       let q : e ≡ mostElements = omega (arith, p .few) in
-      ap zeros (sym (drop-of-length-le t {i = 2 + e * blockLength} (omega arith))) ∙ p .same
+      let front : length (take fixedAt t) ≡ fixedAt = length-take-le fixedAt t (omega arith) in
+      ap zeros (sym (drop-of-length-le (take fixedAt t) {i = 2 + e * blockLength} (omega arith))) ∙ p .same
 
   module _ {r : Bool} {b : List ℕ} (h : e < mostElements) (s : b ≡ block t e) (q : r ≡ zeros b) where
     parts : restZero t e ≡ (r && restZero t (e + 1))
@@ -71,7 +72,8 @@ module _ (t : List ℕ) (E e : ℕ) (p : Unused t E e) where
     parts =
         let n : ℕ = 2 + e * blockLength in
         let m : n + blockLength ≡ 2 + (e + 1) * blockLength = omega arith in
-        split blockLength (drop n t) ∙ ap₂ (λ a l. a && zeros l) (sym (q ∙ ap zeros s)) (drop-drop blockLength n t ∙ ap (λ k. drop k t) m)
+        let front : List ℕ = take fixedAt t in
+        split blockLength (drop n front) ∙ ap₂ (λ a l. a && zeros l) (sym (q ∙ ap zeros s)) (drop-drop blockLength n front ∙ ap (λ k. drop k front) m)
       where
         split : (n : ℕ) (l : List ℕ) → zeros l ≡ (zeros (take n l) && zeros (drop n l))
         split zero l = refl
@@ -106,8 +108,19 @@ module _ (t : List ℕ) where
     pub not-unused : not r ≡ true → false ≡ proper t
     not-unused n = refused (λ q. clash (unused ∙ table-parts t q .unused) (not-true r n))
 
-    pub table-test : {b : Bool} → not r ≡ false → 1 ≤ getD t 0 0 → getD t 1 0 < getD t 0 0 → b ≡ properBlocks t (getD t 0 0) → b ≡ proper t
-    unfolding proper properBlocks
-    table-test {b} n low root s =
-        rw (eq-eqb (length t) tableLength long, le-leb 1 (getD t 0 0) low, le-leb (getD t 0 0) mostElements few, lt-ltb (getD t 1 0) (getD t 0 0) root, sym unused ∙ not-false r n)
-        (s ∙ sym (and-true (properBlocks t (getD t 0 0))))
+    module _ {f : Bool} (fixed : f ≡ properFixed t (fixedPart t)) where
+      pub not-fixed : not f ≡ true → false ≡ proper t
+      not-fixed n = refused (λ q. clash (fixed ∙ table-parts t q .fixed) (not-true f n))
+
+      pub table-test : {b : Bool} → not r ≡ false → not f ≡ false → 1 ≤ getD t 0 0 → getD t 1 0 < getD t 0 0 → b ≡ properBlocks t (getD t 0 0) → b ≡ proper t
+      unfolding proper properBlocks
+      table-test {b} n m low root s =
+          rw (
+            eq-eqb (length t) tableLength long,
+            le-leb 1 (getD t 0 0) low,
+            le-leb (getD t 0 0) mostElements few,
+            lt-ltb (getD t 1 0) (getD t 0 0) root,
+            sym unused ∙ not-false r n,
+            sym fixed ∙ not-false f m,
+          )
+          (s ∙ sym (and-true (properBlocks t (getD t 0 0))) ∙ sym (and-true (properBlocks t (getD t 0 0) && true)))

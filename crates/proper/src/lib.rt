@@ -2,6 +2,7 @@
 //
 // No table is trusted. `proper` takes any slice, and refuses what the paper does not call proper. Numbers that must be 0 are joined
 // into one word, so that a table is read once, with no branch for each number. Nothing is written. Assumes nothing.
+use fixed::proper_fixed;
 use paper::ALLOWED_AT;
 use paper::COUNT_AT;
 use paper::FIRST_AT;
@@ -22,36 +23,17 @@ use sets::is_single;
 use sets::is_within;
 use sets::uses_lowest;
 use table::block_of;
+use zeros::all_zero;
+use zeros::union_of;
 ghost use mathlib.Core.Path.{_≡_};
 ghost use Prim.Native.Nat.{_≤_};
 ghost use lib.Dec.{ltb};
 ghost use lib.ListN.{length};
 ghost use Rattle.paper.specs.Basics.{all, mostElements, mostNames};
 ghost use Rattle.paper.specs.Table;
-ghost use Rattle.paper.specs.Table.{tableLength, blockLength, zeros, properSets, properModel, properBlock};
-ghost use Rattle.proper.specs.Union.{union};
+ghost use Rattle.paper.specs.Table.{tableLength, blockLength, properSets, properModel, properBlock};
 ghost use Rattle.proper.specs.Model.{ranged};
 ghost use Rattle.proper.specs.Whole.{properBlocks, restZero};
-
-// The members of all the sets, as one set.
-fn union_of(words: &[u64]) -> u64
-    ensures { λ r. ⌜ r ≡ union (now (words .entry)) ⌝ }
-{
-    let mut members: u64 = 0;
-    let mut i = 0;
-    while i < words.len() {
-        members = members | words[i];
-        i += 1;
-    }
-    members
-}
-
-// Each number is 0.
-fn all_zero(words: &[u64]) -> bool
-    ensures { λ r. ⌜ r ≡ zeros (now (words .entry)) ⌝ }
-{
-    union_of(words) == 0
-}
 
 // Each number is below the bound.
 fn all_below(words: &[u64], bound: u64) -> bool
@@ -173,8 +155,8 @@ fn unused_from(table: &[u64], elements: u64) -> bool
     true
 }
 
-// "A table is proper exactly if: it has 6,626 numbers; E, root and kinds keep their ranges; [..] unused numbers, blocks from E
-// on included, are 0."
+// "A table is proper exactly if: it has [6,675] numbers; E, root and kinds keep their ranges; [..] unused numbers, blocks from E
+// on included, are 0"; and its entries of fixed attributes are as they must be.
 pub fn proper(table: &[u64]) -> bool
     ensures { λ r. ⌜ r ≡ Table.proper (now (table .entry)) ⌝ }
 {
@@ -192,6 +174,9 @@ pub fn proper(table: &[u64]) -> bool
         return false;
     }
     if !unused_from(table, elements) {
+        return false;
+    }
+    if !proper_fixed(table) {
         return false;
     }
     proper_blocks(table, elements)

@@ -1,7 +1,8 @@
 // Schema files: a file is translated to a table, or refused with the number of its first fault.
 //
-// The file is read from the front, one number after another, and the table is made in a local array, which is copied out at the
-// end: a refused file leaves the lent table as it was. Nothing is asked of the file or of the table. Assumes nothing.
+// The file is read from the front, one number after another, and the table is made in two local arrays, its blocks and the entries of
+// fixed attributes, which are copied out at the end: a refused file leaves the lent table as it was. Nothing is asked of the file or of
+// the table. Assumes nothing.
 use attlist::Attributes;
 use attlist::attributes_at;
 use contentspec::put_content;
@@ -11,6 +12,8 @@ use paper::BLOCK_WORDS;
 use paper::BLOCKS_AT;
 use paper::DONE;
 use paper::EMPTY;
+use paper::FIXED_AT;
+use paper::FIXED_WORDS;
 use paper::ID_AT;
 use paper::IDREF_AT;
 use paper::IDREFS_AT;
@@ -24,11 +27,13 @@ use reading::Place;
 use reading::no_place;
 use reading::number_in;
 ghost use mathlib.Core.Path.{_≡_};
+ghost use mathlib.Core.List.{[]};
 ghost use Prim.Native.Nat.{_≤_};
 ghost use lib.ListN.{length, replicate};
 ghost use Rattle.paper.specs.Basics.{mostElements};
-ghost use Rattle.paper.specs.Table.{tableLength, blockLength};
+ghost use Rattle.paper.specs.Table.{fixedAt, blockLength, fixedNumbers};
 ghost use Rattle.paper.specs.Table;
+ghost use Rattle.entries.specs.Held.{Held};
 ghost use Rattle.schema.specs.Element.{setCells, ElementIn};
 ghost use Rattle.schema.specs.Elements.{Head, ElementsIn};
 ghost use Rattle.schema.specs.Whole.{SchemaIn};
@@ -52,10 +57,10 @@ fn put_sets(block: &mut [u64], kind: u32, s: Attributes)
     block[IDREFS_AT] = s.idrefs;
 }
 
-// The element at a place of the file goes into a block of zeros.
-fn put_element(file: &[u8], at: usize, elements: u32, block: &mut [u64]) -> Place
-    requires { ⌜ (elements ≤ mostElements) × (now block ≡ replicate blockLength 0) ⌝ }
-    ensures { λ r. ⌜ ElementIn elements (now (file .entry)) at r (now (block .exit)) ⌝ }
+// Element e, at a place of the file, goes into a block of zeros, and its fixed attributes behind those of the elements before.
+fn put_element(file: &[u8], at: usize, elements: u32, e: u32, block: &mut [u64], fixed: &mut [u64]) -> Place
+    requires { ⌜ (elements ≤ mostElements) × (now block ≡ replicate blockLength 0) × (Held (now fixed)) ⌝ }
+    ensures { λ r. ⌜ ElementIn elements e (now (file .entry)) at r (now (block .exit)) (now (fixed .entry)) (now (fixed .exit)) ⌝ }
 {
     let k = number_in(file, at, EMPTY, MODEL);
     if k.number != DONE {
@@ -69,7 +74,7 @@ fn put_element(file: &[u8], at: usize, elements: u32, block: &mut [u64]) -> Plac
     if n.number != DONE {
         return no_place(n.number);
     }
-    let s = attributes_at(file, n.next, n.value);
+    let s = attributes_at(file, n.next, n.value, e, fixed);
     if s.number != DONE {
         return no_place(s.number);
     }
@@ -82,17 +87,18 @@ fn put_element(file: &[u8], at: usize, elements: u32, block: &mut [u64]) -> Plac
 
 // ---- the table
 
-// The `elements` elements at a place of the file go into a table that has its first two numbers, and zeros after them.
-fn put_elements(file: &[u8], at: usize, elements: u32, table: &mut [u64]) -> Place
-    requires { ⌜ (at ≤ length (now file)) × (elements ≤ mostElements) × (Head (now table)) ⌝ }
-    ensures { λ r. ⌜ ElementsIn elements (now (file .entry)) at r (now (table .entry)) (now (table .exit)) ⌝ }
+// The `elements` elements at a place of the file go into a table that has its first two numbers, and zeros after them; their fixed
+// attributes among no entries.
+fn put_elements(file: &[u8], at: usize, elements: u32, table: &mut [u64], fixed: &mut [u64]) -> Place
+    requires { ⌜ (at ≤ length (now file)) × (elements ≤ mostElements) × (Head (now table)) × (now fixed ≡ fixedNumbers []) ⌝ }
+    ensures { λ r. ⌜ ElementsIn elements (now (file .entry)) at r (now (table .entry)) (now (table .exit)) (now (fixed .exit)) ⌝ }
 {
     let mut place = at;
     let mut start = BLOCKS_AT;
     let mut i: u32 = 0;
     while i < elements {
         let end = start + BLOCK_WORDS;
-        let x = put_element(file, place, elements, &mut table[start..end]);
+        let x = put_element(file, place, elements, i, &mut table[start..end], fixed);
         if x.number != DONE {
             return x;
         }
@@ -106,10 +112,10 @@ fn put_elements(file: &[u8], at: usize, elements: u32, table: &mut [u64]) -> Pla
     }
 }
 
-// The schema of the file goes into a table of zeros: 0, or the refusal's number.
-fn put_schema(file: &[u8], table: &mut [u64]) -> u32
-    requires { ⌜ now table ≡ replicate tableLength 0 ⌝ }
-    ensures { λ r. ⌜ SchemaIn (now (file .entry)) r (now (table .exit)) ⌝ }
+// The schema of the file goes into blocks of zeros and no entries: 0, or the refusal's number.
+fn put_schema(file: &[u8], table: &mut [u64], fixed: &mut [u64]) -> u32
+    requires { ⌜ (now table ≡ replicate fixedAt 0) × (now fixed ≡ replicate 49 0) ⌝ }
+    ensures { λ r. ⌜ SchemaIn (now (file .entry)) r (now (table .exit)) (now (fixed .exit)) ⌝ }
 {
     let n = number_in(file, 0, 1, MOST_ELEMENTS);
     if n.number != DONE {
@@ -121,7 +127,7 @@ fn put_schema(file: &[u8], table: &mut [u64]) -> u32
     }
     table[0] = n.value as u64;
     table[1] = root.value as u64;
-    let all = put_elements(file, root.next, n.value, table);
+    let all = put_elements(file, root.next, n.value, table, fixed);
     if all.number != DONE {
         return all.number;
     }
@@ -135,11 +141,13 @@ pub fn translate(file: &[u8], table: &mut [u64]) -> u32
     if table.len() != TABLE_WORDS {
         return TABLE;
     }
-    let mut made = [0u64; TABLE_WORDS];
-    let number = put_schema(file, &mut made);
+    let mut made = [0u64; FIXED_AT];
+    let mut fixed = [0u64; FIXED_WORDS];
+    let number = put_schema(file, &mut made, &mut fixed);
     if number != DONE {
         return number;
     }
-    copy_words(table, 0, &made, 0, TABLE_WORDS);
+    copy_words(table, 0, &made, 0, FIXED_AT);
+    copy_words(table, FIXED_AT, &fixed, 0, FIXED_WORDS);
     number
 }

@@ -6,7 +6,7 @@ use borrow.Author.Needs.{needs}
 use lib.Dec.{ltb}
 use lib.ListN.{length, drop}
 use Rattle.paper.specs.Basics.{all}
-use Rattle.proper.specs.Rest.{all-next, all-none}
+use Rattle.zeros.specs.Rest.{all-next, all-none}
 use Rattle.proper.proofs.all_below.Statement.{statement}
 use Rattle.proper.proofs.all_below.Tie as tie
 

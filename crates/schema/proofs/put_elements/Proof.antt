@@ -1,15 +1,15 @@
 -- `schema::put_elements` meets its contract. The loop's invariant is `Laying`; the measure is how many elements are left. Assumes nothing.
 use Prim.Native.Nat.{_-_}
 use borrow.Author.Needs.{needs}
-use Rattle.schema.specs.Elements.{Laying, lay-none, lay-room, lay-zeros, lay-same, lay-stop, lay-more, lay-kept, lay-end}
+use Rattle.schema.specs.Elements.{Laying, lay-none, lay-room, lay-zeros, lay-same, lay-fixed, lay-left, lay-stop, lay-more, lay-kept, lay-end}
 use Rattle.schema.proofs.put_elements.Statement.{statement}
 use Rattle.schema.proofs.put_elements.Tie as tie
 
 abbrev Inv-loop : tie.InvT-loop
-Inv-loop file at elements table₀ place₀ start₀ i₀ table place start i = Laying elements file at table₀ place start i table
+Inv-loop file at elements table₀ fixed₀ place₀ start₀ i₀ table fixed place start i = Laying elements file at table₀ place start i table fixed
 
 abbrev μ-loop : tie.MeasureT-loop
-μ-loop file at elements table₀ place₀ start₀ i₀ table place start i = elements - i
+μ-loop file at elements table₀ fixed₀ place₀ start₀ i₀ table fixed place start i = elements - i
 
 loop-holds : tie.Need-loop-holds Inv-loop μ-loop
 loop-holds c = search lay-none
@@ -35,6 +35,9 @@ put-element-requires c κs = search (lay-zeros, needs)
 same-length : tie.Need-same-length Inv-loop μ-loop
 same-length c = search lay-same
 
+same-length-2 : tie.Need-same-length-2 Inv-loop μ-loop
+same-length-2 c = search lay-left
+
 returns : tie.Need-returns Inv-loop μ-loop
 returns c = search lay-stop
 
@@ -47,8 +50,11 @@ loop-less c = search needs
 loop-again : tie.Need-loop-again Inv-loop μ-loop
 loop-again c = search lay-more
 
-same-length-2 : tie.Need-same-length-2 Inv-loop μ-loop
-same-length-2 c = search lay-kept
+same-length-3 : tie.Need-same-length-3 Inv-loop μ-loop
+same-length-3 c = search lay-kept
+
+same-length-4 : tie.Need-same-length-4 Inv-loop μ-loop
+same-length-4 c = search lay-fixed
 
 returns-2 : tie.Need-returns-2 Inv-loop μ-loop
 returns-2 c = search lay-end
@@ -67,9 +73,11 @@ put-elements-spec =
     part-put-element-end
     put-element-requires
     same-length
+    same-length-2
     returns
     add-i
     loop-less
     loop-again
-    same-length-2
+    same-length-3
+    same-length-4
     returns-2)

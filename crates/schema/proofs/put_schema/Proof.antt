@@ -19,8 +19,8 @@ number-in-requires-2 c κs = search needs
 
 returns-2 : tie.Need-returns-2
 returns-2 c =
-    let s = c .before .before .before .before .before .before .before .before .before in
-    schema-root (s .args .file .now) (c .before .before .before .before .before .before .number-in .ensures) (c .before .before .before .before .if1 .left) _ (c .before .before .number-in2 .ensures) (omega arith) _ (c .if2 .taken)
+    let s = c .before .before .before .before .before .before .before .before .before .before in
+    schema-root (s .args .file .now) (c .before .before .before .before .before .before .number-in .ensures) (c .before .before .before .before .if1 .left) _ (c .before .before .number-in2 .ensures) (omega arith) _ _ (c .if2 .taken)
 
 cast-table : tie.Need-cast-table
 cast-table c = search needs
@@ -36,28 +36,58 @@ slice-write-table-2 c = search head-second
 
 put-elements-requires : tie.Need-put-elements-requires
 put-elements-requires c κs =
-    let s = c .before .before .before .before .before .before .before .before .before .before .before .before in
-    let p = c .before .before .before .before .before .before .before .before .before .number-in .ensures in
-    let z = c .before .before .before .before .before .before .before .if1 .left in
-    (root-within (s .args .file .now) p z _ (c .before .before .before .before .before .number-in2 .ensures) (c .before .before .before .if2 .left), count-few (s .args .file .now) p z, head-put _ _ (s .pre))
+    let s = c .before .before .before .before .before .before .before .before .before .before .before .before .before .before in
+    let p = c .before .before .before .before .before .before .before .before .before .before .number-in .ensures in
+    let z = c .before .before .before .before .before .before .before .before .if1 .left in
+    (root-within (s .args .file .now) p z _ (c .before .before .before .before .before .before .number-in2 .ensures) (c .before .before .before .before .if2 .left), count-few (s .args .file .now) p z, head-put _ _ (s .pre .0), s .pre .1)
 
 same-length : tie.Need-same-length
-same-length c = search head-kept
+same-length c =
+    let s = c .before .before .before .before .before .before .before .before .before .before .before .before .before .before .before .before .before .before .before .before .before in
+    let n = c .before .before .before .before .before .before .before .before .before .before .before .before .before .before .before .before .before .number-in .result .value in
+    let root = c .before .before .before .before .before .before .before .before .before .before .before .before .before .number-in2 .result .value in
+    let all = c .before .before .before .before .before .before in
+    head-kept n root (s .pre .0) (all .put-elements .last .1 .1 .1 .0) (all .put-elements .kept .1 .1 .1 .0)
+
+same-length-2 : tie.Need-same-length-2
+same-length-2 c = search needs
 
 returns-3 : tie.Need-returns-3
 returns-3 c = search schema-elements
 
-same-length-2 : tie.Need-same-length-2
-same-length-2 c = search head-kept
+same-length-3 : tie.Need-same-length-3
+same-length-3 c =
+    let s = c .before .before .before .before .before .before .before .before .before .before .before .before .before .before .before .before .before .before .before .before .before .before .before in
+    let n = c .before .before .before .before .before .before .before .before .before .before .before .before .before .before .before .before .before .before .before .number-in .result .value in
+    let root = c .before .before .before .before .before .before .before .before .before .before .before .before .before .before .before .number-in2 .result .value in
+    let all = c .before .before .before .before .before .before .before .before in
+    head-kept n root (s .pre .0) (all .put-elements .last .1 .1 .1 .0) (all .put-elements .kept .1 .1 .1 .0)
+
+same-length-4 : tie.Need-same-length-4
+same-length-4 c = search needs
 
 returns-4 : tie.Need-returns-4
 returns-4 c = search schema-leftover
 
-same-length-3 : tie.Need-same-length-3
-same-length-3 c = search head-kept
+same-length-5 : tie.Need-same-length-5
+same-length-5 c =
+    let s = c .before .before .before .before .before .before .before .before .before .before .before .before .before .before .before .before .before .before .before .before .before .before .before in
+    let n = c .before .before .before .before .before .before .before .before .before .before .before .before .before .before .before .before .before .before .before .number-in .result .value in
+    let root = c .before .before .before .before .before .before .before .before .before .before .before .before .before .before .before .number-in2 .result .value in
+    let all = c .before .before .before .before .before .before .before .before in
+    head-kept n root (s .pre .0) (all .put-elements .last .1 .1 .1 .0) (all .put-elements .kept .1 .1 .1 .0)
+
+same-length-6 : tie.Need-same-length-6
+same-length-6 c = search needs
 
 returns-5 : tie.Need-returns-5
-returns-5 c = search (schema-put, head-count, head-root)
+returns-5 c =
+    let s = c .before .before .before .before .before .before .before .before .before .before .before .before .before .before .before .before .before .before .before .before .before .before .before in
+    let all = c .before .before .before .before .before .before .before .before .put-elements .ensures in
+    let put = schema-put (s .args .file .now) (c .before .before .before .before .before .before .before .before .before .before .before .before .before .before .before .before .before .before .before .number-in .ensures) (c .before .before .before .before .before .before .before .before .before .before .before .before .before .before .before .before .before .if1 .left) (c .before .before .before .before .before .before .before .before .before .before .before .before .before .before .before .number-in2 .ensures) (c .before .before .before .before .before .before .before .before .before .before .before .before .before .if2 .left) all in
+    let n = c .before .before .before .before .before .before .before .before .before .before .before .before .before .before .before .before .before .before .before .number-in .result .value in
+    let root = c .before .before .before .before .before .before .before .before .before .before .before .before .before .before .before .number-in2 .result .value in
+    search (put, head-count n root (s .pre .0), head-root n root (s .pre .0))
 
 pub put-schema-spec : {M : Type 1} → statement M
 put-schema-spec =
@@ -74,8 +104,11 @@ put-schema-spec =
     slice-write-table-2
     put-elements-requires
     same-length
-    returns-3
     same-length-2
-    returns-4
+    returns-3
     same-length-3
+    same-length-4
+    returns-4
+    same-length-5
+    same-length-6
     returns-5)

@@ -1,8 +1,8 @@
 -- `all_zero` meets its contract. Assumes nothing.
 use borrow.Author.Needs.{needs}
-use Rattle.proper.specs.Union.{union-zeros}
-use Rattle.proper.proofs.all_zero.Statement.{statement}
-use Rattle.proper.proofs.all_zero.Tie as tie
+use Rattle.zeros.specs.Union.{union-zeros}
+use Rattle.zeros.proofs.all_zero.Statement.{statement}
+use Rattle.zeros.proofs.all_zero.Tie as tie
 
 union-of-requires : tie.Need-union-of-requires
 union-of-requires c κs = search needs

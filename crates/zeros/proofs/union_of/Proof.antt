@@ -3,10 +3,10 @@ use mathlib.Core.Path.{_≡_}
 use Prim.Native.Nat.{_≤_, _-_}
 use borrow.Author.Needs.{needs}
 use lib.ListN.{length, drop}
-use Rattle.proper.specs.Union.{unionWith, union}
-use Rattle.proper.specs.Rest.{rest-next, rest-none}
-use Rattle.proper.proofs.union_of.Statement.{statement}
-use Rattle.proper.proofs.union_of.Tie as tie
+use Rattle.zeros.specs.Union.{unionWith, union}
+use Rattle.zeros.specs.Rest.{rest-next, rest-none}
+use Rattle.zeros.proofs.union_of.Statement.{statement}
+use Rattle.zeros.proofs.union_of.Tie as tie
 
 abbrev Inv-loop : tie.InvT-loop
 Inv-loop words members₀ i₀ members i = (i ≤ length words) × (unionWith members (drop i words) ≡ union words)
