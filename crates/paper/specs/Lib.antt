@@ -44,9 +44,6 @@ pub mod Given
 -- Requests, by computing
 pub mod BackExamples
 pub mod ListExamples
-pub mod GroupExamples
--- Items 2, 6, 8 and 12, by computing
-pub mod BackExamples
-pub mod ListExamples
 pub mod FixedExamples
+pub mod GroupExamples
 pub mod InclusionExamples
