@@ -44,6 +44,5 @@ pub mod Given
 -- Requests, by computing
 pub mod BackExamples
 pub mod ListExamples
-pub mod FixedExamples
 pub mod GroupExamples
 pub mod InclusionExamples

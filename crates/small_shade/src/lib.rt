@@ -1,1 +1,1 @@
-// The cases of the small shade, in specs/. There is no code here.
+// The cases of the small shade, and of a schema with fixed attributes, in specs/. There is no code here.
