@@ -1,9 +1,10 @@
 /* shrikemuff.h: small XML documents, held as tokens, kept to their schema.
  *
- * Nine calls: a document file is read into tokens and written from them; a DTD's text becomes a schema file, its names are listed, and the
+ * Ten calls: a document file is read into tokens and written from them; a DTD's text becomes a schema file, its names are listed, and the
  * spot is told at which it is refused; a schema file is translated to a table; a document is checked by a table; a document is edited, and
- * stays as it was unless the edited document keeps to the schema, and each edit that is done tells the one that takes it back; two tables are
- * compared, whether the new one takes what the old one takes in an element. A tenth tells the library's version.
+ * stays as it was unless the edited document keeps to the schema, and each edit that is done tells the one that takes it back; a script step,
+ * a list of edits, is made in one call; two tables are compared, whether the new one takes what the old one takes in an element. An eleventh
+ * tells the library's version.
  * Link libshrikemuff.a. ISO C99, and C++; Linux on x86-64.
  *
  * What each call answers, and what it leaves in every place of the memory lent to it, is proved of the source that the library is compiled
@@ -19,7 +20,8 @@
  *
  * An array that a call writes to (a pointer without `const`) overlaps nothing else that is lent to that call.
  *
- * A refused call leaves everything lent as it was. Apart from this nothing is asked: any bytes, numbers and lengths get an answer.
+ * A refused call leaves everything lent as it was; of a list of edits this holds for the edit that is refused, and what was done before it
+ * stands. Apart from this nothing is asked: any bytes, numbers and lengths get an answer.
  *
  * Calls may run in several threads at once, as long as no array that one of them writes to is lent to another. A table that is written
  * once may serve all threads.
@@ -34,9 +36,10 @@
  *     shrike_translate                under 104,000
  *     shrike_check                    under 42,000
  *     shrike_edit                     under 75,000
+ *     shrike_list                     under 225,000
  *     shrike_compare                  under 57,000
  *
- * So a thread keeps 160 KiB free. (A main thread has 8 MiB by custom. Threads of musl have 128 KiB unless they ask for more.) A large
+ * So a thread keeps 256 KiB free. (A main thread has 8 MiB by custom. Threads of musl have 128 KiB unless they ask for more.) A large
  * frame is touched a page at a time, from the top: where there is too little, the guard page is met and nothing is overwritten.
  *
  * The library calls memcpy and memset and nothing else. It does no input or output, and each call ends.
@@ -136,23 +139,23 @@
  *
  * ANSWERS
  *
- *                                                   read  write  import  names  spot  translate  check  edit  compare
- *      0  valid, or done                              *     *       *      *      *       *        *      *      *
+ *                                                   read  write  import  names  spot  translate  check  edit  list  compare
+ *      0  valid, or done                              *     *       *      *      *       *        *      *     *      *
  *      1  broken number                               *                                   *
  *      2  schema value, form or limit                               *      *      *       *
  *      3  ambiguous model                                                                 *
- *      4  no shape, or bad piece                            *                                      *      *
- *      5  too large, or no room                       *     *       *      *                              *      *
- *      6  operation, place or element                                                                     *      *
- *      7  name: the element is not declared                                                               *
- *      8  attributes                                                                               *      *
- *      9  content                                                                                  *      *
- *     10  root: not the schema's                                                                   *      *
- *     11  ID twice                                                                                 *      *
- *     12  reference to no ID                                                                       *      *
- *     13  table: not of 6,626 words, or not proper                                        *        *      *      *
+ *      4  no shape, or bad piece                            *                                      *      *     *
+ *      5  too large, or no room                       *     *       *      *                              *     *      *
+ *      6  operation, place or element                                                                     *     *      *
+ *      7  name: the element is not declared                                                               *     *
+ *      8  attributes                                                                               *      *     *
+ *      9  content                                                                                  *      *     *
+ *     10  root: not the schema's                                                                   *      *     *
+ *     11  ID twice                                                                                 *      *     *
+ *     12  reference to no ID                                                                       *      *     *
+ *     13  table: not of 6,626 words, or not proper                                        *        *      *     *      *
  *     14  DTD text                                                  *      *      *
- *     16  kind not compared                                                                                      *
+ *     16  kind not compared                                                                                            *
  *
  * A call gives the first that applies, in the order that stands with it. shrike_words(number) says an answer in words.
  *
@@ -190,7 +193,8 @@ enum {
     SHRIKE_MOST_NAMES = 64,          /* names that occur in a model */
     SHRIKE_MOST_ATTRIBUTES = 64,     /* attributes of an element; their numbers are below it */
     SHRIKE_MOST_SCHEMA_FILE = 21650, /* bytes of the schema file of a DTD text */
-    SHRIKE_MOST_BACK = 8195          /* numbers of the edit that takes an edit back: three, and its piece */
+    SHRIKE_MOST_BACK = 8195,         /* numbers of the edit that takes an edit back: three, and its piece */
+    SHRIKE_MOST_EDITS = 256          /* edits of a list */
 };
 
 /* Sorts of tokens. */
@@ -351,6 +355,13 @@ typedef struct {
     uint32_t children;
 } shrike_answer;
 
+/* The answer of shrike_list. last: the answer of the last edit that was run; its `used` is the document's length now, its change and children
+ * are that edit's alone. done: how many edits were done; a refused one is not counted. */
+typedef struct {
+    shrike_answer last;
+    uint32_t done;
+} shrike_listed;
+
 /* The answer of shrike_compare. takes_all: 1 if the new table takes all that the old one takes, else 0. length: the names of the sequence
  * that is lost; 0 if none is. A refusal gives 0 for both. */
 typedef struct {
@@ -453,6 +464,23 @@ shrike_verdict shrike_check(const uint64_t *table, size_t words, const uint32_t 
  * those of the edited document. */
 shrike_answer shrike_edit(const uint64_t *table, size_t words, uint32_t *doc, size_t room, uint64_t used, uint32_t operation,
                           uint64_t place, const uint32_t *piece, size_t n, uint32_t *back, size_t back_room);
+
+/* Makes the edits of a list one after another: a script step in one call. It ends at the first edit that is refused; what was done before
+ * stands. Document, last answer and number of edits done are those of single calls of shrike_edit, each with the `used` that the one before
+ * answered and with room for what takes it back. The table and the document's shape are tested once, so that a list costs less than its
+ * single calls.
+ *
+ * The `n` numbers of `list` are 1 to 256 edits, end to end, each of them as shrike_edit writes one to `back`: an operation, a place, the
+ * number of tokens in a piece, and the piece. A place is one of the document as the edits before it left it.
+ *
+ * Behind the document stands 0 up to the longest that it was, on the way or at first; later places of `doc` keep their contents. No step back
+ * is written: a host that is to take a list back keeps a copy of the document, or makes single calls.
+ *
+ * Order: the list from the front, before any edit is run: empty, or it ends inside an edit, also where a piece has fewer tokens than it says
+ * (4); a 257th edit begun (5), so that 256 edits and anything behind them are 5. Then nothing is written, and `last` has the number, the
+ * `used` that was given, and 0 for the rest. Then the edits, each in the order of shrike_edit, from the table (13) and shape (4) on. A piece
+ * over 8,192 tokens that is all there is its edit's 4. */
+shrike_listed shrike_list(const uint64_t *table, size_t words, uint32_t *doc, size_t room, uint64_t used, const uint32_t *list, size_t n);
 
 /* Compares the content of an element in two tables: does the new one take every sequence of children that the old one takes?
  *

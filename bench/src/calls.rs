@@ -1,4 +1,4 @@
-//! The nine calls and their answers, as every contender of the benchmark offers them.
+//! The ten calls and their answers, as every contender of the benchmark offers them.
 
 #[derive(Clone, Copy, Debug, PartialEq, Eq)]
 pub struct Count {
@@ -28,6 +28,12 @@ pub struct Answer {
 }
 
 #[derive(Clone, Copy, Debug, PartialEq, Eq)]
+pub struct Listed {
+    pub last: Answer,
+    pub done: u32,
+}
+
+#[derive(Clone, Copy, Debug, PartialEq, Eq)]
 pub struct Compared {
     pub number: u32,
     pub takes_all: u32,
@@ -48,6 +54,13 @@ pub struct Edit {
     pub piece: Vec<u32>,
 }
 
+impl Edit {
+    /// The edit as the numbers of a list.
+    pub fn numbers(&self) -> impl Iterator<Item = u32> + '_ {
+        [self.operation, self.place as u32, self.piece.len() as u32].into_iter().chain(self.piece.iter().copied())
+    }
+}
+
 /// What the core and the plain version both do. A buffer is the whole slice; `used` says how much of it is the document. An edit writes the
 /// one that takes it back into `back`.
 pub trait Calls {
@@ -61,5 +74,6 @@ pub trait Calls {
     fn check(&self, table: &[u64], buffer: &[u32], used: u64) -> Verdict;
     #[allow(clippy::too_many_arguments)]
     fn edit(&self, table: &[u64], buffer: &mut [u32], used: u64, operation: u32, place: u64, piece: &[u32], back: &mut [u32]) -> Answer;
+    fn list(&self, table: &[u64], buffer: &mut [u32], used: u64, list: &[u32]) -> Listed;
     fn compare(&self, old: &[u64], new: &[u64], element: u32, sequence: &mut [u32]) -> Compared;
 }

@@ -6,6 +6,8 @@ use std::rc::Rc;
 
 #[cfg(feature = "libxml2")]
 use crate::libxml2;
+use crate::lists::{Left, ListInput};
+use crate::report::{Who, WHO};
 use crate::timing::{from_outside, repeat, repeat_pair, Job};
 
 /// The most bytes of a schema file that is made of a DTD's text.
@@ -61,6 +63,8 @@ pub enum Input {
         new: Vec<u64>,
         lost: Option<usize>,
     },
+    /// A list of edits that are all done, and the one that takes it back.
+    List(ListInput),
     /// From the files of schema and document to a judged document: translate, read and check; `text` is both as XML.
     Load {
         schema: Vec<u8>,
@@ -82,6 +86,7 @@ struct Outcome {
     tokens: Vec<Vec<u32>>,
     bytes: Vec<u8>,
     table: Vec<u64>,
+    left: Option<Left>,
 }
 
 fn edit(calls: &dyn Calls, table: &[u64], buffer: &mut [u32], used: u64, edit: &Edit, back: &mut [u32]) -> Answer {
@@ -107,6 +112,7 @@ impl Input {
             Input::Pair { texts, .. } => texts.iter().all(|text| libxml2::Tree::parse(text).is_valid()),
             Input::Load { text, .. } => libxml2::load(text),
             Input::Import { text, taken: true, .. } => libxml2::import(text),
+            Input::List(input) => input.agrees_with_libxml2(),
             _ => true,
         };
         if agrees {
@@ -176,6 +182,10 @@ impl Input {
                 outcome.tokens.push(lent);
                 outcome.compared[0] == compared(*lost)
             }
+            Input::List(input) => {
+                outcome.left = Some(input.left(calls)?);
+                true
+            }
             Input::Load { schema, file, tokens, .. } => {
                 let (mut table, mut buffer) = (vec![7; WORDS], vec![7; *tokens]);
                 outcome.verdicts.push(load(calls, schema, file, &mut table, &mut buffer));
@@ -191,9 +201,19 @@ impl Input {
         }
     }
 
+    /// Who is timed on the input, and how.
+    pub fn jobs<'a>(&'a self, contenders: &[&'a dyn Calls; 3]) -> Vec<(Who, Job<'a>)> {
+        if let Input::List(input) = self {
+            return input.jobs(contenders[0], contenders[2]);
+        }
+        let jobs = contenders.iter().map(|calls| self.job(*calls)).chain(self.libxml2_job());
+        WHO.into_iter().zip(jobs).collect()
+    }
+
     /// The input as a job of a contender.
-    pub fn job<'a>(&'a self, calls: &'a dyn Calls) -> Job<'a> {
+    fn job<'a>(&'a self, calls: &'a dyn Calls) -> Job<'a> {
         match self {
+            Input::List(_) => unreachable!("a list has jobs of its own"),
             Input::Check { table, buffer, used, number, .. } => Box::new(move |count| {
                 repeat(count, || assert_eq!(calls.check(from_outside(&table[..]), from_outside(&buffer[..]), *used).number, *number))
             }),
@@ -249,7 +269,7 @@ impl Input {
 
     /// The input as a job of libxml2, where there is a counterpart.
     #[cfg(feature = "libxml2")]
-    pub fn libxml2_job(&self) -> Option<Job<'_>> {
+    fn libxml2_job(&self) -> Option<Job<'_>> {
         match self {
             Input::Check { text: Some(text), number, .. } => {
                 let tree = libxml2::Tree::parse(text);
@@ -267,7 +287,7 @@ impl Input {
     }
 
     #[cfg(not(feature = "libxml2"))]
-    pub fn libxml2_job(&self) -> Option<Job<'_>> {
+    fn libxml2_job(&self) -> Option<Job<'_>> {
         None
     }
 }

@@ -16,7 +16,7 @@ pub fn agree(contenders: &[&dyn Calls], count: u32) -> Result<u64, String> {
         let mut dice = Dice::new(k as u64 + 7);
         for round in 0..count {
             agree_once(contenders, mix, &mut dice).map_err(|what| format!("{}, round {}: {}", mix.name(), round, what))?;
-            calls += 9;
+            calls += 10;
         }
     }
     Ok(calls)
@@ -77,6 +77,12 @@ fn agree_once(contenders: &[&dyn Calls], mix: Mix, dice: &mut Dice) -> Result<()
     same("edit", contenders, |calls| {
         let (mut lent, mut back) = (buffer.clone(), vec![7; room]);
         (calls.edit(&table, &mut lent, used, edit.operation, edit.place, &edit.piece, &mut back), lent, back)
+    })?;
+
+    let list = any_list(&tokens, dice);
+    same("list", contenders, |calls| {
+        let mut lent = buffer.clone();
+        (calls.list(&table, &mut lent, used, &list), lent)
     })?;
 
     let mut bytes = file(&tokens);
@@ -141,6 +147,16 @@ fn any_edit(tokens: &[u32], dice: &mut Dice) -> Edit {
         piece[at] = (piece[at] & 7) | dice.below(45) << 3;
     }
     Edit { operation, place: u64::from(place), piece }
+}
+
+/// The numbers of a few edits, now and then of too many, or disturbed.
+fn any_list(tokens: &[u32], dice: &mut Dice) -> Vec<u32> {
+    let count = if dice.below(64) == 0 { 250 + dice.below(10) } else { dice.below(6) };
+    let mut list: Vec<u32> = (0..count).flat_map(|_| any_edit(tokens, dice).numbers().collect::<Vec<u32>>()).collect();
+    if dice.below(6) == 0 && !list.is_empty() {
+        disturb(&mut list, dice, |number, dice| *number = dice.below(20));
+    }
+    list
 }
 
 /// The element that starts at the place, else the token there.

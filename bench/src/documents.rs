@@ -15,6 +15,8 @@ const UNKNOWN: u32 = 63;
 const FRESH: u32 = 65_001;
 const FRESH_TOO: u32 = 65_002;
 const NOWHERE: u32 = 65_003;
+/// IDs that come with a script step, of which the k-th is k more.
+const STEP_IDS: u32 = 65_100;
 /// Values and texts of documents are below this.
 const VALUES: u32 = 65_000;
 
@@ -165,6 +167,25 @@ impl Mix {
             Spot::End => places.rfind(fits),
         }
         .expect("a document has bare items")
+    }
+
+    /// The piece of a small edit at a place, the k-th of a step, if the place is one for it: an item comes before a bare one, a bare one goes or
+    /// gives way to another, or gets a caption; a caption goes. A bare item has no attribute beside those it needs and no child.
+    pub fn small_piece(self, tokens: &[u32], place: usize, operation: u32, k: u32) -> Option<Vec<u32>> {
+        let caption = token(CAPTION, 4);
+        if operation == DROP {
+            let attributes = tokens[place + 1..].iter().take_while(|&&t| matches!(t & 7, 4 | 5));
+            return if tokens[place] & 7 == 1 && attributes.clone().any(|&t| t == caption) { Some(vec![caption]) } else { None };
+        }
+        let sorts: &[u32] = if self == Mix::ManyIds { &[1, 4, 5, 2] } else { &[1, 3, 2] };
+        if place == 0 || !tokens[place..].iter().map(|t| t & 7).take(sorts.len()).eq(sorts.iter().copied()) {
+            return None;
+        }
+        Some(match operation {
+            INSERT | REPLACE => self.item(STEP_IDS + k, &[]),
+            SET => vec![caption, token(k, 5)],
+            _ => vec![],
+        })
     }
 
     /// The five edits, all done on the valid document, each with the one that takes it back.

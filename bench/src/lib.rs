@@ -4,5 +4,6 @@
 pub mod calls;
 pub mod documents;
 pub mod plain;
+pub mod steps;
 pub mod texts;
 pub mod xml;

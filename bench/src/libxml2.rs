@@ -1,4 +1,7 @@
-//! libxml2, as a host uses it: an XML text with its DTD is parsed to a tree, and the tree is validated whole; a DTD's text is parsed alone.
+//! libxml2, as a host uses it: an XML text with its DTD is parsed to a tree, and the tree is validated whole, or changed and validated; a
+//! DTD's text is parsed alone.
+
+pub mod changes;
 
 use std::ffi::c_void;
 use std::os::raw::{c_char, c_int};

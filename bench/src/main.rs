@@ -5,6 +5,7 @@ mod cases;
 mod chance;
 #[cfg(feature = "libxml2")]
 mod libxml2;
+mod lists;
 mod plot;
 mod report;
 mod shrikemuff;
@@ -13,9 +14,11 @@ mod timing;
 use bench::calls::{Calls, Edit};
 use bench::documents::{self, Mix, MIXES, SPOTS};
 use bench::plain::{Keys, Plain, BACK, WORDS};
+use bench::steps::Step;
 use bench::texts;
 use bench::xml;
 use cases::Input;
+use lists::ListInput;
 use report::{grouped, Report, Row, Section, SIZES};
 use std::path::PathBuf;
 use std::rc::Rc;
@@ -25,6 +28,8 @@ use timing::Plan;
 /// The documents that are edited: an insert still fits into 8,192.
 const EDIT_TOKENS: usize = 8184;
 const ROOM: usize = 8192;
+/// The lists of edits.
+const LISTS: [usize; 3] = [1, 16, 256];
 /// The sizes of the plot beside those of the table.
 const MORE_SIZES: [usize; 3] = [500, 2000, 6000];
 /// Where a table has the last occurrences of element 0.
@@ -40,8 +45,7 @@ struct Case {
 
 impl Case {
     fn new(section: Section, mix: &'static str, what: &str, tokens: usize, input: Input) -> Case {
-        let row = Row { section, mix, what: what.to_string(), spot: "", tokens, times: [None; 4] };
-        Case { rows: vec![row], input }
+        Case { rows: vec![Row::new(section, mix, what, tokens)], input }
     }
 }
 
@@ -136,14 +140,7 @@ fn cases_of(mix: Mix) -> Vec<Case> {
 
     for spot in SPOTS {
         for pair in mix.pairs(&tokens, spot) {
-            let row = |what: &str| Row {
-                section: Section::Edit,
-                mix: name,
-                what: what.to_string(),
-                spot: spot.name(),
-                tokens: EDIT_TOKENS,
-                times: [None; 4],
-            };
+            let row = |what: &str| Row { spot: spot.name(), ..Row::new(Section::Edit, name, what, EDIT_TOKENS) };
             let rows = if pair.name == pair.back_name { vec![row(pair.name)] } else { vec![row(pair.name), row(pair.back_name)] };
             let texts = [text_of(&edited(&table, &buffer, EDIT_TOKENS, &pair.edit)), text_of(&tokens)];
             let input = Input::Pair {
@@ -168,6 +165,12 @@ fn cases_of(mix: Mix) -> Vec<Case> {
             case.rows[0].spot = spot.name();
             cases.push(case);
         }
+    }
+    for edits in LISTS {
+        let step = Step::spread(mix, &table, &tokens, ROOM, edits);
+        let texts = [text_of(&tokens), text_of(&step.tokens)];
+        let input = Input::List(ListInput::new(table.clone(), buffer.clone(), EDIT_TOKENS as u64, step, texts));
+        cases.push(Case::new(Section::List, name, &edits.to_string(), EDIT_TOKENS, input));
     }
     cases
 }
@@ -248,7 +251,7 @@ fn judged(name: &'static str, schema: &[u32], tokens: &[u32], pair: documents::P
     let texts = [text_of(&edited(&table, &buffer, used, &pair.edit)), text_of(tokens)];
     let both = Input::Pair { table, buffer, used: used as u64, edit: pair.edit, back: pair.back, texts };
     let mut edits = Case::new(Section::File, name, pair.name, used, both);
-    edits.rows.push(Row { section: Section::File, mix: name, what: pair.back_name.to_string(), spot: "", tokens: used, times: [None; 4] });
+    edits.rows.push(Row::new(Section::File, name, pair.back_name, used));
     vec![Case::new(Section::File, name, "check", used, check), edits]
 }
 
@@ -286,12 +289,8 @@ fn time(group: &mut [Case], contenders: &[&dyn Calls; 3], plan: &Plan) {
     let mut jobs = Vec::new();
     let mut whose = Vec::new();
     for (case, Case { input, .. }) in group.iter().enumerate() {
-        for (who, calls) in contenders.iter().enumerate() {
-            whose.push((case, who));
-            jobs.push(input.job(*calls));
-        }
-        if let Some(job) = input.libxml2_job() {
-            whose.push((case, contenders.len()));
+        for (who, job) in input.jobs(contenders) {
+            whose.push((case, who as usize));
             jobs.push(job);
         }
     }
@@ -312,7 +311,7 @@ fn method(plan: &Plan, report: &Report, inputs: usize, by_chance: u64) -> String
     }
     text += &format!(
         "\n## How it was measured\n\n\
-         - Core: the archive's nine calls through C. Plain: a straightforward safe Rust version of the same calls with the same promises \
+         - Core: the archive's ten calls through C. Plain: a straightforward safe Rust version of the same calls with the same promises \
          (`bench/src/plain`), IDs compared in pairs; the second one marks them in a field of 65,536 bits and is the same otherwise. \
          Both are compiled with optimisation 3; the archive is not optimised across its border.\n\
          - Before timing, core and both plain versions gave the same answers and left the same memory on all {} inputs and on {} calls \
@@ -324,6 +323,9 @@ fn method(plan: &Plan, report: &Report, inputs: usize, by_chance: u64) -> String
          of the plain version and with where the linker puts a short loop, those of the pairs of IDs most.\n\
          - An edit and the one that takes it back take turns on one buffer, each timed by itself: insert and remove, set and drop, replace \
          and replace (the first of the two is shown). All are done, none refused.\n\
+         - A list and the one that takes it back take turns on one buffer, and so do their single calls and libxml2's changes; the time is that \
+         of both, for each edit. Before timing, each list was compared with its single calls, and libxml2's tree behind the changes with the \
+         tree of the edited document.\n\
          - The documents that are edited have {} tokens, so that an insert fits into {}.\n",
         inputs,
         grouped(by_chance as usize),

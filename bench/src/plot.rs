@@ -36,6 +36,7 @@ fn colour(who: Who) -> &'static str {
         Who::Plain => "#d1711a",
         Who::Field => "#8a8f98",
         Who::Libxml2 => "#2f8f4e",
+        Who::Single | Who::Parent | Who::Moving => "#000000",
     }
 }
 

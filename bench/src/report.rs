@@ -10,9 +10,17 @@ pub enum Who {
     Plain,
     Field,
     Libxml2,
+    /// The core's single calls, where a list is timed.
+    Single,
+    /// libxml2's check of the parent alone.
+    Parent,
+    /// The moving of the tokens.
+    Moving,
 }
 
+/// Those who are timed on all inputs.
 pub const WHO: [Who; 4] = [Who::Core, Who::Plain, Who::Field, Who::Libxml2];
+const ALL: usize = 7;
 
 impl Who {
     pub fn name(self) -> &'static str {
@@ -21,6 +29,9 @@ impl Who {
             Who::Plain => "plain",
             Who::Field => "plain, bit field",
             Who::Libxml2 => "libxml2",
+            Who::Single => "core, single calls",
+            Who::Parent => "libxml2, parent alone",
+            Who::Moving => "moving",
         }
     }
 }
@@ -33,6 +44,7 @@ pub enum Section {
     EditPart,
     File,
     Hostile,
+    List,
 }
 
 /// What was timed, and the times of each who did it.
@@ -42,10 +54,14 @@ pub struct Row {
     pub what: String,
     pub spot: &'static str,
     pub tokens: usize,
-    pub times: [Option<Time>; 4],
+    pub times: [Option<Time>; ALL],
 }
 
 impl Row {
+    pub fn new(section: Section, mix: &'static str, what: &str, tokens: usize) -> Row {
+        Row { section, mix, what: what.to_string(), spot: "", tokens, times: [None; ALL] }
+    }
+
     pub fn median(&self, who: Who) -> Option<f64> {
         self.times[who as usize].map(|time| time.median)
     }
@@ -64,6 +80,13 @@ pub const MOST_PLAIN: f64 = 1.5;
 pub const MOST_FIELD: f64 = 1.2;
 /// Most that an edit may cost, in whole checks of the same document.
 pub const MOST_CHECKS: f64 = 1.2;
+/// Most that a list of 256 edits may cost, in its single calls: where a parent has few children, and where it has many.
+pub const MOST_SINGLE: f64 = 0.1;
+pub const MOST_SINGLE_WIDE: f64 = 1.0 / 3.0;
+/// The mixes in which a parent has many children.
+const WIDE: [&str; 2] = ["2,000 IDs", "40-name choice"];
+/// The list that the limits speak of.
+const LONGEST: &str = "256";
 /// Most nanoseconds that a hostile text may take.
 pub const MOST_HOSTILE: f64 = 1e9;
 
@@ -88,7 +111,7 @@ impl Report<'_> {
         self.rows.iter().filter(|row| match row.section {
             Section::Check => SIZES.contains(&row.tokens) || row.tokens == self.edit_tokens,
             Section::Edit | Section::File => true,
-            Section::CheckPart | Section::EditPart | Section::Hostile => false,
+            Section::CheckPart | Section::EditPart | Section::Hostile | Section::List => false,
         })
     }
 
@@ -108,6 +131,7 @@ impl Report<'_> {
         self.limits(&mut text);
         self.checks(&mut text);
         self.edits(&mut text);
+        self.lists(&mut text);
         self.files(&mut text);
         self.hostile(&mut text);
         self.parts(&mut text);
@@ -123,6 +147,13 @@ impl Report<'_> {
         let judged = calls(Who::Field).filter(|(_, row)| row.section != Section::File || JUDGED.contains(&row.what.as_str()));
         limit(text, &format!("every check and edit within {} × plain with a bit field", MOST_FIELD), MOST_FIELD, judged);
         let hostile = self.section(Section::Hostile).map(|row| (row.median(Who::Core).map(|ns| ns / MOST_HOSTILE), row));
+        for (wide, most, words) in [(false, MOST_SINGLE, "a tenth"), (true, MOST_SINGLE_WIDE, "a third")] {
+            let lists = self.section(Section::List).filter(|row| row.what == LONGEST && WIDE.contains(&row.mix) == wide);
+            let lists: Vec<_> = lists.map(|row| (row.ratio(Who::Core, Who::Single), row)).collect();
+            let mixes: Vec<&str> = lists.iter().map(|(_, row)| row.mix).collect();
+            let what = format!("a list of {} edits within {} of its single calls: {}", LONGEST, words, mixes.join(", "));
+            limit(text, &what, most, lists.into_iter());
+        }
         limit(text, "a hostile DTD text within a second (in seconds)", 1.0, hostile);
         text.push('\n');
     }
@@ -180,6 +211,41 @@ impl Report<'_> {
             .unwrap();
         }
         text.push('\n');
+    }
+
+    fn lists(&self, text: &mut String) {
+        writeln!(text, "## Lists of edits at {} tokens\n", grouped(self.edit_tokens)).unwrap();
+        text.push_str(
+            "Nanoseconds an edit of a script step: insert, remove, set, drop and replace in turn, spread over the document in no order of ",
+        );
+        text.push_str("places, all done, and the step that takes them back. \"Single calls\": the same edits by the core, a call each. \"Bit field\": the plain ");
+        text.push_str("version's list, which makes single edits one after another. \"Whole\": libxml2, the change of its tree and whole validation after each. ");
+        text.push_str("\"Parent alone\": the change and `xmlValidateOneElement` of the parent and of the piece, **which misses IDs, references and the values of ");
+        text.push_str("attributes**: it does not tell whether the document is valid. \"Moving\": the tokens behind the place moved and nothing else, the floor.\n\n");
+        text.push_str("| mix | edits | core, list | core, single calls | plain, bit field | libxml2, whole | libxml2, parent alone | moving | list/single | list/bit field | list/moving | whole/list | parent alone/list |\n");
+        text.push_str("|---|--:|--:|--:|--:|--:|--:|--:|--:|--:|--:|--:|--:|\n");
+        for row in self.section(Section::List) {
+            let times = [Who::Core, Who::Single, Who::Field, Who::Libxml2, Who::Parent, Who::Moving].map(|who| decimal(row.median(who), 0));
+            writeln!(
+                text,
+                "| {} | {} | {} | {} | {} | {} | {} | {} |",
+                row.mix,
+                row.what,
+                times.join(" | "),
+                decimal(row.ratio(Who::Core, Who::Single), 3),
+                decimal(row.ratio(Who::Core, Who::Field), 3),
+                decimal(row.ratio(Who::Core, Who::Moving), 1),
+                decimal(row.ratio(Who::Libxml2, Who::Core), 1),
+                decimal(row.ratio(Who::Parent, Who::Core), 1),
+            )
+            .unwrap();
+        }
+        text.push_str("\nWhere a parent has many children (2,000 panels of one shade, all children of the 40-name choice) they are walked from the first at each ");
+        text.push_str("edit. Remembering at each child the occurrence that the run stood at would save the walk: it would begin at the place and end where it ");
+        text.push_str("meets a remembered occurrence (in C, measured on the same documents: under 1 µs an edit on every mix). It would need a byte for each ");
+        text.push_str(
+            "of 8,192 tokens, moved with them, and the law that a run goes on from an occurrence alike wherever it came from.\n\n",
+        );
     }
 
     fn hostile(&self, text: &mut String) {

@@ -1,9 +1,13 @@
 //! The core, through its C interface.
 
 use ::shrikemuff::raw;
-use bench::calls::{Answer, Calls, Compared, Count, Spot, Verdict};
+use bench::calls::{Answer, Calls, Compared, Count, Listed, Spot, Verdict};
 
 pub struct Core;
+
+fn answer(said: raw::Answer) -> Answer {
+    Answer { number: said.number, place: said.place, used: said.used, change: said.change, children: said.children }
+}
 
 impl Calls for Core {
     fn name(&self) -> &'static str {
@@ -48,7 +52,13 @@ impl Calls for Core {
         let (words, room, n, back_room) = (table.len(), buffer.len(), piece.len(), back.len());
         let (table, doc, piece, back) = (table.as_ptr(), buffer.as_mut_ptr(), piece.as_ptr(), back.as_mut_ptr());
         let said = unsafe { raw::shrike_edit(table, words, doc, room, used, operation, place, piece, n, back, back_room) };
-        Answer { number: said.number, place: said.place, used: said.used, change: said.change, children: said.children }
+        answer(said)
+    }
+
+    fn list(&self, table: &[u64], buffer: &mut [u32], used: u64, list: &[u32]) -> Listed {
+        let (words, room, n) = (table.len(), buffer.len(), list.len());
+        let said = unsafe { raw::shrike_list(table.as_ptr(), words, buffer.as_mut_ptr(), room, used, list.as_ptr(), n) };
+        Listed { last: answer(said.last), done: said.done }
     }
 
     fn compare(&self, old: &[u64], new: &[u64], element: u32, sequence: &mut [u32]) -> Compared {

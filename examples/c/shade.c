@@ -1,12 +1,13 @@
 /* A host in C: loads a schema, a document and edits from the files of a folder, and says in words what comes of each; of an edit that is
  * done also how the length changed, and at how many children it looked. Then it takes back all that were done, the last one first, and says
- * whether the document is the first one again.
+ * whether the document is the first one again. Then it makes the edits of the file as a script step, in one call, which ends at the first that
+ * is refused; and, of the first document, those that were done, and says whether that gives the document of single edits.
  *
  *     cc -Iinclude -o shade examples/c/shade.c target/staticlib/libshrikemuff.a
  *     ./shade samples/small-shade
  *
  * Ends with 0 once every edit was tried and taken back, and with 1 if the library, a file, the schema or the document is refused, or if the
- * document is another one in the end. */
+ * document is another one after the steps back or after the last list. */
 #include "shrikemuff.h"
 
 #include <stdio.h>
@@ -31,6 +32,20 @@ static struct {
     const uint32_t *at;
 } steps[sizeof edits.at / 3];
 static uint32_t backs[4 * sizeof edits.at];
+
+/* The edits of the file as lists: all of them, and those that were done. Each number has a byte in the file. */
+struct list {
+    size_t n;
+    uint32_t at[sizeof edits.at];
+};
+static struct list all, good;
+
+/* The document at first, and after all edits. */
+struct state {
+    uint64_t used;
+    uint32_t doc[SHRIKE_MOST_TOKENS];
+};
+static struct state first, last;
 
 /* Loads FOLDER/NAME. */
 static int load(const char *folder, const char *name, struct bytes *b) {
@@ -82,22 +97,67 @@ static uint32_t next_edit(size_t *at, uint32_t *operation, uint32_t *place, size
     return SHRIKE_DONE;
 }
 
+/* Says what comes of an edit, or of the last one of a list: whether it is done. The document's length is the answer's. */
+static int told(const char *what, shrike_answer answer) {
+    used = answer.used;
+    if (answer.number != SHRIKE_DONE) {
+        refused(what, answer.number, answer.place);
+        printf(", %llu tokens\n", (unsigned long long)used);
+        return 0;
+    }
+    printf("%s: done, %llu tokens, %+d, looked at %u\n", what, (unsigned long long)used, (int)answer.change, (unsigned)answer.children);
+    return 1;
+}
+
 /* Makes an edit, and says what comes of it: whether it is done. */
 static int made(const char *what, unsigned line, uint32_t operation, uint32_t place, const uint32_t *with, size_t n, uint32_t *back,
                 size_t back_room) {
     char said[64];
     shrike_answer answer =
         shrike_edit(table, SHRIKE_TABLE_WORDS, doc, SHRIKE_MOST_TOKENS, used, operation, place, with, n, back, back_room);
-    used = answer.used;
     snprintf(said, sizeof said, "%s %u, %s at %u", what, line, operations[operation <= SHRIKE_DROP ? operation : 0], (unsigned)place);
-    if (answer.number != SHRIKE_DONE) {
-        refused(said, answer.number, answer.place);
-        printf(", %llu tokens\n", (unsigned long long)used);
-        return 0;
-    }
-    printf("%s: done, %llu tokens, %+d", said, (unsigned long long)used, (int)answer.change);
-    printf(", looked at %u\n", (unsigned)answer.children);
-    return 1;
+    return told(said, answer);
+}
+
+/* The document is kept, and taken again. */
+static void keep(struct state *s) {
+    s->used = used;
+    memcpy(s->doc, doc, sizeof doc);
+}
+
+static void again(const struct state *s) {
+    used = s->used;
+    memcpy(doc, s->doc, sizeof doc);
+}
+
+/* Whether the document is that one; and says so. */
+static int is(const struct state *s, const char *which) {
+    int same = used == s->used && memcmp(s->doc, doc, used * sizeof *doc) == 0;
+    printf("document: %s%s, %llu tokens\n", same ? "" : "not ", which, (unsigned long long)used);
+    return same;
+}
+
+/* One more edit in a list, with the piece that was read. */
+static void add(struct list *l, uint32_t operation, uint32_t place, size_t n) {
+    uint32_t *to = l->at + l->n;
+    to[0] = operation, to[1] = place, to[2] = (uint32_t)n;
+    memcpy(to + 3, piece, n * sizeof *piece);
+    l->n += 3 + n;
+}
+
+/* Makes the edits of a list, 256 in a call, up to one that is refused. */
+static void script(const struct list *l) {
+    size_t at = 0;
+    int done;
+    do {
+        char said[64];
+        size_t edits_here = 0, end = at;
+        for (; edits_here < SHRIKE_MOST_EDITS && end < l->n; edits_here++) end += 3 + l->at[end + 2];
+        shrike_listed r = shrike_list(table, SHRIKE_TABLE_WORDS, doc, SHRIKE_MOST_TOKENS, used, l->at + at, end - at);
+        snprintf(said, sizeof said, "list of %zu edits, %u done", edits_here, (unsigned)r.done);
+        done = told(said, r.last);
+        at = end;
+    } while (done && at < l->n);
 }
 
 /* Makes all edits of the file, and takes back those that were done, the last one first. Answers 0, or the number of what is wrong with the
@@ -111,12 +171,15 @@ static uint32_t there_and_back(void) {
         size_t n;
         uint32_t number = next_edit(&at, &operation, &place, &n);
         if (number != SHRIKE_DONE) return number;
+        add(&all, operation, place, n);
         if (made("edit", line, operation, place, piece, n, top, (size_t)(end - top))) {
+            add(&good, operation, place, n);
             steps[done].line = line;
             steps[done++].at = top;
             top += 3 + top[2];
         }
     }
+    keep(&last);
     while (done > 0) {
         const uint32_t *back = steps[--done].at;
         made("back from edit", steps[done].line, back[0], back[1], back + 3, back[2], other, SHRIKE_MOST_BACK);
@@ -157,15 +220,16 @@ int main(int argc, char **argv) {
     }
     printf("check: valid, %llu tokens\n", (unsigned long long)used);
 
-    static uint32_t first[SHRIKE_MOST_TOKENS];
-    memcpy(first, doc, sizeof doc);
+    keep(&first);
     number = there_and_back();
     if (number != SHRIKE_DONE) {
         refused("edits", number, 0);
         printf("\n");
         return 1;
     }
-    int same = used == in.count && memcmp(first, doc, in.count * sizeof *doc) == 0;
-    printf("document: %s, %llu tokens\n", same ? "the first one again" : "not the first one", (unsigned long long)used);
-    return same ? 0 : 1;
+    if (!is(&first, "the first one again")) return 1;
+    script(&all);
+    again(&first);
+    script(&good);
+    return is(&last, "that of single edits") ? 0 : 1;
 }

@@ -20,6 +20,9 @@ HOLDS(answer_place_at_4, offsetof(shrike_answer, place) == 4);
 HOLDS(answer_used_at_8, offsetof(shrike_answer, used) == 8);
 HOLDS(answer_change_at_16, offsetof(shrike_answer, change) == 16);
 HOLDS(answer_children_at_20, offsetof(shrike_answer, children) == 20);
+HOLDS(listed_is_32, sizeof(shrike_listed) == 32);
+HOLDS(listed_last_at_0, offsetof(shrike_listed, last) == 0);
+HOLDS(listed_done_at_24, offsetof(shrike_listed, done) == 24);
 HOLDS(compared_is_12, sizeof(shrike_compared) == 12);
 HOLDS(compared_number_at_0, offsetof(shrike_compared, number) == 0);
 HOLDS(compared_takes_all_at_4, offsetof(shrike_compared, takes_all) == 4);
@@ -35,6 +38,7 @@ static uint32_t (*const translate)(const uint8_t *, size_t, uint64_t *, size_t) 
 static shrike_verdict (*const check)(const uint64_t *, size_t, const uint32_t *, size_t, uint64_t) = shrike_check;
 static shrike_answer (*const edit)(const uint64_t *, size_t, uint32_t *, size_t, uint64_t, uint32_t, uint64_t, const uint32_t *, size_t,
                                    uint32_t *, size_t) = shrike_edit;
+static shrike_listed (*const list)(const uint64_t *, size_t, uint32_t *, size_t, uint64_t, const uint32_t *, size_t) = shrike_list;
 static shrike_compared (*const compare)(const uint64_t *, size_t, const uint64_t *, size_t, uint32_t, uint32_t *, size_t) = shrike_compare;
 
 /* ---- the small shade */
@@ -328,6 +332,64 @@ static void steps_back(void) {
     TAKEN_BACK(5, 0, reference, 1, to_set);
 }
 
+/* ---- lists: a second panel comes, the use goes, the first panel goes */
+
+static const uint32_t step[] = {1, 10, 4, 9, 12, 173, 2, 2, 14, 0, 2, 3, 0};
+enum { STEP = sizeof step / sizeof *step, FIRST_EDIT = 7, TWO_EDITS = 10, MOST = 256, NUMBERS = 5 };
+
+static void lists(void) {
+    uint32_t doc[PLACES], due[PLACES], more[STEP + 3];
+    static const uint32_t left[] = {1, 4, 61, 9, 12, 173, 2, 2, 0, 0, 0, 0, 0, 0, 0, 0, 0, 0, 0};
+    static const uint32_t inserted[] = {1, 4, 61, 9, 12, 165, 17, 243, 2, 2, 9, 12, 173, 2, 25, 20, 165, 2, 2};
+    static const uint32_t title[NUMBERS] = {4, 0, 2, 4, 69};
+    static uint32_t many[NUMBERS * (MOST + 1)], long_piece[3 + 8193];
+    /* the list itself is refused: nothing is written, and the used length comes back as it was given */
+    fill(doc, shade, SHADE);
+    fill(due, shade, SHADE);
+    LISTED(list(table, TABLE, doc, PLACES, SHADE, NULL, 0), 4, 0, SHADE, 0, 0, 0);
+    for (size_t n = 1; n < STEP; n++)
+        if (n != FIRST_EDIT && n != TWO_EDITS) LISTED(list(table, TABLE, doc, PLACES, SHADE, step, n), 4, 0, SHADE, 0, 0, 0);
+    for (size_t i = 0; i <= MOST; i++) memcpy(many + NUMBERS * i, title, sizeof title);
+    for (size_t n = NUMBERS * MOST + 1; n <= NUMBERS * (MOST + 1); n++)
+        LISTED(list(table, TABLE, doc, PLACES, SHADE, many, n), 5, 0, SHADE, 0, 0, 0);
+    LISTED(list(NULL, 0, NULL, 0, UINT64_MAX, NULL, 0), 4, 0, UINT64_MAX, 0, 0, 0);
+    LISTED(list(NULL, 0, NULL, 0, OVER, many, NUMBERS * MOST + 1), 5, 0, OVER, 0, 0, 0);
+    /* table, shape, and an edit that is refused first */
+    LISTED(list(table, TABLE - 1, doc, PLACES, OVER + 1, step, STEP), 13, 0, OVER + 1, 0, 0, 0);
+    LISTED(list(table, TABLE, doc, SHADE - 1, SHADE, step, STEP), 4, 0, SHADE, 0, 0, 0);
+    LISTED(list(table, TABLE, doc, PLACES, OVER + SHADE, step, STEP), 4, 0, OVER + SHADE, 0, 0, 0);
+    LISTED(list(table, TABLE, doc, PLACES, SHADE, step + TWO_EDITS, 3), 9, 3, SHADE, 0, 0, 0);
+    LISTED(list(table, TABLE, doc, SHADE + PANEL - 1, SHADE, step, STEP), 5, 0, SHADE, 0, 0, 0);
+    BYTES(doc, due, sizeof doc);
+    /* done: one, two and three of the edits, and zeros up to the longest */
+    fill(due, inserted, SHADE + PANEL);
+    LISTED(list(table, TABLE, doc, SHADE + PANEL, SHADE, step, FIRST_EDIT), 0, 0, SHADE + PANEL, PANEL, 3, 1);
+    BYTES(doc, due, sizeof doc);
+    fill(doc, shade, SHADE);
+    LISTED(list(table, TABLE, doc, PLACES, SHADE, step, TWO_EDITS), 0, 0, SHADE, -4, 2, 2);
+    fill(doc, shade, SHADE);
+    fill(due, left, SHADE + PANEL);
+    LISTED(list(table, TABLE, doc, PLACES, SHADE, step, STEP), 0, 0, 8, -7, 1, 3);
+    BYTES(doc, due, sizeof doc);
+    /* a fourth that is refused: the three stand */
+    memcpy(more, step, sizeof step);
+    memcpy(more + STEP, step + TWO_EDITS, 3 * sizeof *step);
+    fill(doc, shade, SHADE);
+    LISTED(list(table, TABLE, doc, PLACES, SHADE, more, STEP + 3), 9, 3, 8, 0, 0, 3);
+    BYTES(doc, due, sizeof doc);
+    /* as many as there may be; a piece over 8,192 tokens */
+    fill(doc, shade, SHADE);
+    fill(due, shade, SHADE);
+    due[2] = 69;
+    LISTED(list(table, TABLE, doc, PLACES, SHADE, many, NUMBERS * MOST), 0, 0, SHADE, 0, 2, MOST);
+    BYTES(doc, due, sizeof doc);
+    long_piece[0] = 1, long_piece[1] = 7, long_piece[2] = 8193;
+    for (size_t i = 3; i < sizeof long_piece / sizeof *long_piece; i++) long_piece[i] = 243;
+    LISTED(list(table, TABLE, doc, PLACES, SHADE, long_piece, sizeof long_piece / sizeof *long_piece), 4, 0, SHADE, 0, 0, 0);
+    BYTES(doc, due, sizeof doc);
+    BYTES(table, before, sizeof table);
+}
+
 /* ---- two tables: the small shade, and with (use, use, panel)? in place of (panel+, use*) */
 
 #define SEQUENCE 4290
@@ -375,6 +437,9 @@ static void comparisons(void) {
     BYTES(table, before, sizeof table);
 }
 
+/* 257 edits of no operation */
+static const uint32_t no_operations[3 * (MOST + 1)] = {0};
+
 /* Lengths over 2^32: what is lent beyond the first page must not be touched. */
 static int lengths(void) {
     uint32_t *tokens = (uint32_t *)reserve((OVER + 1) * sizeof *tokens, 1);
@@ -408,6 +473,11 @@ static int lengths(void) {
     fill(doc, shade, SHADE);
     tokens[0] = 9;
     ANSWERED(edit(table, TABLE, doc, PLACES, SHADE, 2, 10, tokens, OVER, back, OVER), 4, 0, SHADE, 0, 0);
+    memcpy(tokens, no_operations, sizeof no_operations);
+    LISTED(list(table, TABLE, doc, PLACES, SHADE, tokens, OVER), 5, 0, SHADE, 0, 0, 0);
+    memcpy(tokens, shade, sizeof shade);
+    LISTED(list(table, TABLE, tokens, OVER, SHADE, step, STEP), 0, 0, 8, -7, 1, 3);
+    LISTED(list(words, OVER + TABLE, tokens, OVER, 8, step, STEP), 13, 0, 8, 0, 0, 0);
     return 1;
 }
 
@@ -420,6 +490,7 @@ int main(void) {
     edits();
     children();
     steps_back();
+    lists();
     comparisons();
     if (!lengths()) return 1;
     return told();

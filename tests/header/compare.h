@@ -60,6 +60,12 @@ static inline void answered(int line, shrike_answer r, uint32_t number, uint32_t
     same(line, "children", r.children, children);
 }
 
+static inline void listed(int line, shrike_listed r, uint32_t number, uint32_t place, uint64_t used, int32_t change, uint32_t children,
+                          uint32_t done) {
+    answered(line, r.last, number, place, used, change, children);
+    same(line, "done", r.done, done);
+}
+
 static inline void compared_as(int line, shrike_compared r, uint32_t number, uint32_t takes_all, uint32_t length) {
     same(line, "number", r.number, number);
     same(line, "takes_all", r.takes_all, takes_all);
@@ -70,6 +76,7 @@ static inline void compared_as(int line, shrike_compared r, uint32_t number, uin
 #define SPOTTED(call, number, offset) spotted(__LINE__, call, number, offset)
 #define JUDGED(call, number, place) judged(__LINE__, call, number, place)
 #define ANSWERED(call, number, place, used, change, children) answered(__LINE__, call, number, place, used, change, children)
+#define LISTED(call, number, place, used, change, children, done) listed(__LINE__, call, number, place, used, change, children, done)
 #define COMPARED(call, number, takes_all, length) compared_as(__LINE__, call, number, takes_all, length)
 #define SAME(what, got, due) same(__LINE__, what, got, due)
 #define BYTES(got, due, n) bytes_same(__LINE__, got, due, n)

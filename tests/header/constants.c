@@ -292,6 +292,24 @@ static void steps_back(void) {
     SAME("tokens that went", back[2], SHRIKE_MOST_TOKENS);
 }
 
+/* The answer to a list of so many edits, each of which sets the title. */
+static shrike_listed titles(size_t edits) {
+    static uint32_t doc[LENGTH(shade)];
+    memcpy(doc, shade, sizeof shade);
+    begin();
+    for (size_t i = 0; i < edits; i++) {
+        put(SHRIKE_SET, 1), put(0, 1), put(LENGTH(title), 1);
+        for (size_t j = 0; j < LENGTH(title); j++) put(title[j], 1);
+    }
+    return shrike_list(table, SHRIKE_TABLE_WORDS, doc, LENGTH(doc), LENGTH(doc), numbers, made);
+}
+
+static void lists(void) {
+    LISTED(titles(SHRIKE_MOST_EDITS), SHRIKE_DONE, 0, LENGTH(shade), 0, 2, SHRIKE_MOST_EDITS);
+    LISTED(titles(SHRIKE_MOST_EDITS + 1), SHRIKE_ROOM, 0, LENGTH(shade), 0, 0, 0);
+    LISTED(titles(0), SHRIKE_SHAPE, 0, LENGTH(shade), 0, 0, 0);
+}
+
 /* The answers that nothing above has. */
 static void answers(void) {
     static const uint8_t broken[] = {128, 0};
@@ -372,6 +390,7 @@ int main(void) {
     limits_of_documents();
     tables();
     operations();
+    lists();
     steps_back();
     answers();
     texts();

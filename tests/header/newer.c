@@ -56,6 +56,11 @@ shrike_answer shrike_edit(const uint64_t *table, size_t words, uint32_t *doc, si
     return r;
 }
 
+shrike_listed shrike_list(const uint64_t *table, size_t words, uint32_t *doc, size_t room, uint64_t used, const uint32_t *list, size_t n) {
+    shrike_listed r = {{answer("list"), 0, used, 0, 0}, 0};
+    return (void)table, (void)words, (void)doc, (void)room, (void)list, (void)n, r;
+}
+
 shrike_compared shrike_compare(const uint64_t *old_table, size_t old_words, const uint64_t *new_table, size_t new_words, uint32_t element,
                                uint32_t *sequence, size_t room) {
     shrike_compared r = {answer("compare"), 0, 0};

@@ -99,6 +99,14 @@ static void *edits(void *answer) {
     return answer;
 }
 
+/* A list of edits that are done, the first two of which fill the document. */
+static void *steps(void *answer) {
+    static const uint32_t list[] = {2, 1, 0, 1, 1, 2, 1 * 8 + 1, 2, 3, 1, 2, 1 * 8 + 1, 2, 2, 3, 0};
+    shrike_listed r = shrike_list(table, SHRIKE_TABLE_WORDS, doc, SHRIKE_MOST_TOKENS, used, list, sizeof list / sizeof *list);
+    *(uint32_t *)answer = r.last.number == 0 && r.done == 4 ? 0 : 1 + r.last.number;
+    return answer;
+}
+
 static void *compares(void *answer) {
     static uint32_t sequence[SHRIKE_SEQUENCE_PLACES];
     shrike_compared r = shrike_compare(table, SHRIKE_TABLE_WORDS, empty_table, SHRIKE_TABLE_WORDS, 0, sequence, SHRIKE_SEQUENCE_PLACES);
@@ -165,6 +173,8 @@ int main(void) {
     told("shrike_translate", translates);
     told("shrike_check", checks);
     told("shrike_edit", edits);
+    used += 2;
+    told("shrike_list", steps);
     told("shrike_compare", compares);
     return wrong;
 }

@@ -3,6 +3,7 @@
 use super::{dense_schema, file, with_last_element_wrong, with_other_root, MIXES, SMALL_SHADE, SPOTS};
 use crate::calls::Calls;
 use crate::plain::{Keys, Plain, BACK, WORDS};
+use crate::steps::{numbers, Step};
 
 const PLAIN: Plain = Plain { keys: Keys::Pairs };
 const SIZES: [usize; 6] = [500, 1000, 2000, 4000, 8184, 8192];
@@ -64,6 +65,27 @@ fn edits_are_done_and_taken_back() {
                 let answer = PLAIN.edit(&table, &mut buffer[..room], 8184, edit.operation, edit.place, &edit.piece, &mut noted);
                 assert_eq!(answer.number, refused.number, "{} {}", mix.name(), refused.after);
             }
+        }
+    }
+}
+
+#[test]
+fn steps_are_done_and_taken_back() {
+    for mix in MIXES {
+        let table = table(&mix.schema());
+        let tokens = mix.document(8184);
+        for count in [1, 16, 256] {
+            let step = Step::spread(mix, &table, &tokens, 8192, count);
+            let places: Vec<u64> = step.there.iter().map(|edit| edit.place * 4 / 8184).collect();
+            assert!(count == 1 || (0..4).all(|quarter| places.contains(&quarter)), "{} is spread", mix.name());
+            let mut buffer = tokens.clone();
+            buffer.resize(8192, 0);
+            let there = PLAIN.list(&table, &mut buffer, 8184, &numbers(&step.there));
+            assert_eq!((there.last.number, there.done as usize), (0, count), "{}", mix.name());
+            assert_eq!(buffer[..there.last.used as usize], step.tokens);
+            let back = PLAIN.list(&table, &mut buffer, there.last.used, &numbers(&step.back));
+            assert_eq!((back.last.number, back.done as usize, back.last.used), (0, count, 8184));
+            assert_eq!(buffer[..8184], tokens);
         }
     }
 }

@@ -5,7 +5,7 @@ use super::keys::Keys;
 use super::shape::{self, is_token, number, sort, ATTRIBUTE, END, START, TEXT, VALUE};
 use super::table::Table;
 use super::{Fault, DEPTH, TOKENS};
-use crate::calls::{DROP, INSERT, REMOVE, REPLACE, SET};
+use crate::calls::{Answer, Edit, DROP, INSERT, REMOVE, REPLACE, SET};
 
 /// What an edit does: `cut` tokens from `at` on give way to `put`. `touched` is the element around it, none for the root itself.
 struct Splice<'a> {
@@ -15,7 +15,23 @@ struct Splice<'a> {
     touched: Option<usize>,
 }
 
-/// The new length, and how many children were looked at.
+impl Splice<'_> {
+    /// The tokens behind it.
+    fn made(&self, tokens: &[u32]) -> Vec<u32> {
+        let mut edited = Vec::with_capacity(tokens.len() - self.cut + self.put.len());
+        edited.extend_from_slice(&tokens[..self.at]);
+        edited.extend_from_slice(self.put);
+        edited.extend_from_slice(&tokens[self.at + self.cut..]);
+        edited
+    }
+}
+
+/// The tokens behind an edit in good form, at a place for it. They are not judged.
+pub fn spliced(tokens: &[u32], edit: &Edit) -> Vec<u32> {
+    plan(tokens, edit.operation, edit.place, &edit.piece).expect("a place for the edit").made(tokens)
+}
+
+/// One edit. Where `back` is none, what takes it back is not written, and asks for no room.
 #[allow(clippy::too_many_arguments)]
 pub fn edit(
     words: &[u64],
@@ -24,7 +40,32 @@ pub fn edit(
     operation: u32,
     place: u64,
     piece: &[u32],
-    back: &mut [u32],
+    back: Option<&mut [u32]>,
+    keys: Keys,
+) -> Answer {
+    match made(words, buffer, used, operation, place, piece, back, keys) {
+        Ok((new, children)) => {
+            Answer { number: 0, place: 0, used: new as u64, change: new as i32 - used as i32, children: children as u32 }
+        }
+        Err(fault) => refused(fault, used),
+    }
+}
+
+/// The answer to an edit that is refused.
+pub fn refused(fault: Fault, used: u64) -> Answer {
+    Answer { number: fault.number, place: fault.place, used, change: 0, children: 0 }
+}
+
+/// The new length, and how many children were looked at.
+#[allow(clippy::too_many_arguments)]
+fn made(
+    words: &[u64],
+    buffer: &mut [u32],
+    used: u64,
+    operation: u32,
+    place: u64,
+    piece: &[u32],
+    back: Option<&mut [u32]>,
     keys: Keys,
 ) -> Result<(usize, usize), Fault> {
     let table = Table::proper(words).ok_or(13u32)?;
@@ -41,17 +82,19 @@ pub fn edit(
         return Err(5.into());
     }
     let (by, with) = taken_back(tokens, operation, piece, &splice);
-    let back = back.get_mut(..3 + with.len()).ok_or(5u32)?;
+    let back = match back {
+        Some(back) => Some(back.get_mut(..3 + with.len()).ok_or(5u32)?),
+        None => None,
+    };
 
-    let mut edited = Vec::with_capacity(new);
-    edited.extend_from_slice(&tokens[..splice.at]);
-    edited.extend_from_slice(splice.put);
-    edited.extend_from_slice(&tokens[splice.at + splice.cut..]);
+    let edited = splice.made(tokens);
     let of_piece = judge::starts(&edited, splice.at, splice.at + splice.put.len());
     let children = judge::judge(table, &edited, splice.touched.into_iter().chain(of_piece), keys)?;
 
-    back[..3].copy_from_slice(&[by, place as u32, with.len() as u32]);
-    back[3..].copy_from_slice(with);
+    if let Some(back) = back {
+        back[..3].copy_from_slice(&[by, place as u32, with.len() as u32]);
+        back[3..].copy_from_slice(with);
+    }
     let old = tokens.len();
     buffer[..new].copy_from_slice(&edited);
     if new < old {

@@ -1,4 +1,4 @@
-//! The straightforward version: the nine calls in safe Rust, as one writes them without proofs.
+//! The straightforward version: the ten calls in safe Rust, as one writes them without proofs.
 //!
 //! It promises what the core promises. It trusts no caller: table and shape are tested at each call. It judges in the paper's
 //! order. A refusal leaves lent memory as it was.
@@ -10,14 +10,16 @@ mod dtd;
 mod edits;
 mod judge;
 mod keys;
+mod lists;
 mod model;
 mod numbers;
 mod schema;
 mod shape;
 mod table;
 
-use crate::calls::{Answer, Calls, Compared, Count, Spot, Verdict};
+use crate::calls::{Answer, Calls, Compared, Count, Listed, Spot, Verdict};
 pub use compare::PLACES;
+pub use edits::spliced;
 pub use keys::Keys;
 pub use table::WORDS;
 
@@ -25,6 +27,8 @@ pub use table::WORDS;
 pub const TOKENS: usize = 8192;
 /// Most elements inside one another.
 pub const DEPTH: usize = 64;
+/// Most edits of a list.
+pub const EDITS: usize = 256;
 /// Most numbers of an edit that takes one back: three, and its piece.
 pub const BACK: usize = 3 + TOKENS;
 
@@ -83,12 +87,12 @@ impl Calls for Plain {
 
     #[inline(never)]
     fn edit(&self, table: &[u64], buffer: &mut [u32], used: u64, operation: u32, place: u64, piece: &[u32], back: &mut [u32]) -> Answer {
-        match edits::edit(table, buffer, used, operation, place, piece, back, self.keys) {
-            Ok((new, children)) => {
-                Answer { number: 0, place: 0, used: new as u64, change: new as i32 - used as i32, children: children as u32 }
-            }
-            Err(fault) => Answer { number: fault.number, place: fault.place, used, change: 0, children: 0 },
-        }
+        edits::edit(table, buffer, used, operation, place, piece, Some(back), self.keys)
+    }
+
+    #[inline(never)]
+    fn list(&self, table: &[u64], buffer: &mut [u32], used: u64, list: &[u32]) -> Listed {
+        lists::list(table, buffer, used, list, self.keys)
     }
 
     #[inline(never)]

@@ -127,6 +127,33 @@ fn a_run_of_edits() {
     }
 }
 
+/// A list is its single edits, up to one that is refused; and it is refused itself before any is made.
+#[test]
+fn lists() {
+    let plain = Plain { keys: Keys::Field };
+    let table = table(&plain);
+    let listed = |list: &[u32]| {
+        let mut buffer = [7; 32];
+        buffer[..15].copy_from_slice(&SHADE);
+        let listed = plain.list(&table, &mut buffer, 15, list);
+        ((listed.last.number, listed.last.place, listed.last.used, listed.last.change, listed.done), buffer)
+    };
+    let step = [1, 10, 4, 9, 12, 173, 2, 2, 14, 0, 2, 3, 0, 2, 3, 0];
+    let mut left = [7; 32];
+    left[..19].fill(0);
+    left[..8].copy_from_slice(&[1, 4, 61, 9, 12, 173, 2, 2]);
+    assert_eq!(listed(&step[..13]), ((0, 0, 8, -7, 3), left));
+    assert_eq!(listed(&step), ((9, 3, 8, 0, 3), left));
+    for length in [0, 1, 2, 3, 6, 8, 9, 11, 14] {
+        assert_eq!(listed(&step[..length]).0, (4, 0, 15, 0, 0));
+    }
+    let title = [4, 0, 2, 4, 69];
+    assert_eq!(listed(&title.repeat(256)).0, (0, 0, 15, 0, 256));
+    for more in [&title[..1], &title] {
+        assert_eq!(listed(&[&title.repeat(256), more].concat()).0, (5, 0, 15, 0, 0));
+    }
+}
+
 /// The answer to a schema of four elements whose root has this model, the others being empty.
 fn model(symbols: &[u8]) -> u32 {
     let mut file = vec![4, 0, 2];

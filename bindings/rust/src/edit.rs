@@ -1,5 +1,5 @@
-//! Edits, and what one that was done tells.
-use crate::numbers;
+//! Edits and lists of them, and what one that was done tells.
+use crate::{numbers, Fault};
 
 /// An edit: what is done, where, and with which tokens. Any numbers may stand in it; a wrong one is refused.
 #[derive(Clone, Copy, Debug, PartialEq, Eq)]
@@ -49,8 +49,8 @@ impl<'a> Edit<'a> {
         }
     }
 
-    /// The edit as numbers, which [`Edit::read`] reads: so it is kept. A place or a count over [`u32::MAX`] becomes that, which gets the
-    /// same answer: there is no such place, and no such piece.
+    /// The edit as numbers, which [`Edit::read`] reads: so it is kept, and put into a list for [`Table::list`](crate::Table::list). A place
+    /// or a count over [`u32::MAX`] becomes that, which gets the same answer: there is no such place, and no such piece.
     pub fn numbers(self) -> impl Iterator<Item = u32> + 'a {
         let number = |length: usize| u32::try_from(length).unwrap_or(u32::MAX);
         let head = [self.operation, number(self.place), number(self.piece.len())];
@@ -71,4 +71,26 @@ pub struct Done<'b> {
     pub children: usize,
     /// the edit that takes this one back
     pub back: Edit<'b>,
+}
+
+/// What came of a list of edits.
+#[derive(Clone, Copy, Debug, PartialEq, Eq)]
+#[non_exhaustive]
+pub struct Listed {
+    /// the document's length now
+    pub used: usize,
+    /// how many edits were done; a refused one is not counted
+    pub done: usize,
+    /// the last edit that was run, if it was done, as then all were; else why it was refused, or the list itself
+    pub last: Result<Last, Fault>,
+}
+
+/// The last edit of a list that was done. Both numbers are that edit's alone.
+#[derive(Clone, Copy, Debug, PartialEq, Eq)]
+#[non_exhaustive]
+pub struct Last {
+    /// the new length less the old
+    pub change: i32,
+    /// the children looked at, as in [`Done`]
+    pub children: usize,
 }

@@ -1,8 +1,8 @@
 //! Small XML documents, held as tokens, kept to their schema: a safe binding of `libshrikemuff.a`.
 //!
-//! The numbers of a file, the texts of a DTD, the tokens, the order of faults and the sizes are described in `include/shrikemuff.h`. No call allocates (a
-//! [`Table`] is a box that this binding makes), none keeps state, and a refused call leaves what it was lent as it was. A call takes
-//! less than 104,000 bytes of the stack.
+//! The numbers of a file, the texts of a DTD, the tokens, the order of faults, the sizes and the stack that a call takes are described in
+//! `include/shrikemuff.h`. No call allocates (a [`Table`] is a box that this binding makes), none keeps state, and a refused call leaves what
+//! it was lent as it was.
 //!
 //! ```
 //! use shrikemuff::numbers::TEXT_ONLY;
@@ -43,8 +43,8 @@ pub mod raw;
 pub mod token;
 
 pub use dtd::{import, import_spot, names, Spot};
-pub use edit::{Done, Edit};
-pub use numbers::{MOST_BACK, MOST_BYTES, MOST_SCHEMA_FILE, MOST_TOKENS, SEQUENCE_PLACES, TABLE_WORDS, VERSION};
+pub use edit::{Done, Edit, Last, Listed};
+pub use numbers::{MOST_BACK, MOST_BYTES, MOST_EDITS, MOST_SCHEMA_FILE, MOST_TOKENS, SEQUENCE_PLACES, TABLE_WORDS, VERSION};
 pub use refusal::{Fault, Refusal};
 
 #[cfg(not(target_pointer_width = "64"))]
@@ -175,6 +175,45 @@ impl Table {
         Fault::of(r.number, r.place)?;
         let back = Edit::read(back).expect("an edit that is done writes the one that takes it back");
         Ok(Done { used: r.used as usize, change: r.change, children: r.children as usize, back })
+    }
+
+    /// Makes the edits of a list in one call, one after another, as [`Table::edit`] makes each; it ends at the first that is refused, and what
+    /// was done before stands. No step back is written.
+    ///
+    /// The list is 1 to [`MOST_EDITS`] edits, each as [`Edit::numbers`] has it. An empty list, and one that ends inside an edit, is
+    /// [`Refusal::Shape`], one edit more is [`Refusal::Room`]; of such a list no edit is run.
+    ///
+    /// ```
+    /// use shrikemuff::numbers::{CDATA, EMPTY, IMPLIED};
+    /// use shrikemuff::{token, write, Edit, Refusal, Table};
+    ///
+    /// let mut schema = [0; 7];
+    /// write(&[1, 0, EMPTY, 1, 0, CDATA, IMPLIED], &mut schema).unwrap(); // one element, 0, with an attribute, 0
+    /// let table = Table::translate(&schema).unwrap();
+    /// let mut doc = [token::start(0), token::end(), 0, 0, 0];
+    ///
+    /// let mut step = Vec::new();
+    /// step.extend(Edit::set(0, &[token::attribute(0), token::value(7)]).numbers());
+    /// step.extend(Edit::set(0, &[token::attribute(0), token::value(8)]).numbers());
+    /// step.extend(Edit::insert(3, &[token::text(9)]).numbers());
+    /// step.extend(Edit::drop(0, &[token::attribute(0)]).numbers());
+    /// let listed = table.list(&mut doc, 2, &step);
+    /// assert_eq!((listed.used, listed.done), (4, 2));
+    /// assert_eq!(listed.last.unwrap_err().refusal, Refusal::Content); // a text in an element that is empty
+    /// assert_eq!(doc[..4], [token::start(0), token::attribute(0), token::value(8), token::end()]);
+    /// ```
+    pub fn list(&self, doc: &mut [u32], used: usize, list: &[u32]) -> Listed {
+        if let Err(refusal) = served() {
+            return Listed { used, done: 0, last: Err(refusal.into()) };
+        }
+        // SAFETY: as in `read`.
+        let r = unsafe {
+            let (words, room) = (self.words.as_ptr(), doc.len());
+            raw::shrike_list(words, TABLE_WORDS, doc.as_mut_ptr(), room, used as u64, list.as_ptr(), list.len())
+        };
+        let last = Fault::of(r.last.number, r.last.place);
+        let last = last.map(|()| Last { change: r.last.change, children: r.last.children as usize });
+        Listed { used: r.last.used as usize, done: r.done as usize, last }
     }
 }
 

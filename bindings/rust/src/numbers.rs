@@ -18,6 +18,7 @@ pub const MOST_NAMES: usize = 64;
 pub const MOST_ATTRIBUTES: usize = 64;
 pub const MOST_SCHEMA_FILE: usize = 21_650;
 pub const MOST_BACK: usize = 8_195;
+pub const MOST_EDITS: usize = 256;
 
 // Sorts of tokens.
 pub const START: u32 = 1;

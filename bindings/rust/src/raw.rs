@@ -27,6 +27,14 @@ pub struct Answer {
     pub children: u32,
 }
 
+/// `shrike_listed`
+#[repr(C)]
+#[derive(Clone, Copy, Debug, PartialEq, Eq)]
+pub struct Listed {
+    pub last: Answer,
+    pub done: u32,
+}
+
 /// `shrike_compared`
 #[repr(C)]
 #[derive(Clone, Copy, Debug, PartialEq, Eq)]
@@ -66,6 +74,7 @@ extern "C" {
         back: *mut u32,
         back_room: usize,
     ) -> Answer;
+    pub fn shrike_list(table: *const u64, words: usize, doc: *mut u32, room: usize, used: u64, list: *const u32, n: usize) -> Listed;
     pub fn shrike_compare(
         old_table: *const u64,
         old_words: usize,

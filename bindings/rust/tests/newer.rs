@@ -15,11 +15,12 @@ fn refusals() -> Vec<Option<Refusal>> {
         Table::translate(&[]).err(),
         table.check(&doc, 0).err().map(|fault| fault.refusal),
         table.edit(&mut doc, 0, Edit::remove(1), &mut [0; 3]).err().map(|fault| fault.refusal),
+        table.list(&mut doc, 0, &[2, 1, 0]).last.err().map(|fault| fault.refusal),
         compare(&table, &table, 0, &mut []).err(),
     ]
 }
 
-const CALLS: [&str; 9] = ["read", "write", "import", "names", "import_spot", "translate", "check", "edit", "compare"];
+const CALLS: [&str; 10] = ["read", "write", "import", "names", "import_spot", "translate", "check", "edit", "list", "compare"];
 
 #[test]
 #[ignore = "the library is not the newer one"]
@@ -27,13 +28,13 @@ fn newer() {
     for more in [1_000_000, 7_000_000] {
         set_var("NEWER_BY", more.to_string());
         assert_eq!(library_version(), VERSION + more);
-        assert_eq!(refusals(), [Some(Refusal::Version(VERSION + more)); 9]);
+        assert_eq!(refusals(), [Some(Refusal::Version(VERSION + more)); CALLS.len()]);
     }
     for more in [0, 1, 1_000] {
         set_var("NEWER_BY", more.to_string());
         for (i, call) in CALLS.iter().enumerate() {
             set_var("NEW_IN", call);
-            let mut due = [None; 9];
+            let mut due = [None; CALLS.len()];
             due[i] = Some(Refusal::Unknown(1_013));
             assert_eq!(refusals(), due);
         }

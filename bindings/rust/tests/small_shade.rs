@@ -1,5 +1,6 @@
 //! The paper's small shade, and what the binding adds to the calls: lengths, answers as types.
-use shrikemuff::{compare, raw, read, token, write, Edit, Fault, Refusal, Table, MOST_BYTES, MOST_TOKENS, SEQUENCE_PLACES, TABLE_WORDS};
+use shrikemuff::{compare, raw, read, token, write, Edit, Fault, Refusal, Table};
+use shrikemuff::{MOST_BYTES, MOST_EDITS, MOST_TOKENS, SEQUENCE_PLACES, TABLE_WORDS};
 
 const SCHEMA: [u8; 28] = [4, 0, 2, 5, 0, 4, 6, 3, 8, 1, 0, 0, 0, 2, 2, 3, 7, 1, 1, 1, 0, 1, 0, 0, 1, 2, 2, 0];
 const SHADE: [u32; 15] = [1, 4, 61, 9, 12, 165, 17, 243, 2, 2, 25, 20, 165, 2, 2];
@@ -183,6 +184,56 @@ fn edits_as_numbers() {
     assert!(Edit::remove(usize::MAX).numbers().eq([2, u32::MAX, 0]));
     let largest = Edit::read(&[u32::MAX, u32::MAX, 0]).unwrap();
     assert_eq!((largest.operation, largest.place), (u32::MAX, u32::MAX as usize));
+}
+
+/// The paper's run of edits but for its refused ones: a second panel comes, the use goes, the first panel goes.
+fn step() -> Vec<u32> {
+    [Edit::insert(10, &[9, 12, 173, 2]), Edit::remove(14), Edit::remove(3)].iter().flat_map(|edit| edit.numbers()).collect()
+}
+
+/// Makes a list of edits of the shade: the new length, how many are done, and of the last one change and children or a fault.
+#[track_caller]
+fn listed(list: &[u32], due: (usize, usize, Result<(i32, usize), Fault>)) -> Vec<u32> {
+    let mut doc = shade();
+    let listed = table().list(&mut doc, 15, list);
+    assert_eq!((listed.used, listed.done, listed.last.map(|last| (last.change, last.children))), due);
+    doc
+}
+
+#[test]
+fn lists() {
+    use Refusal::{Content, Room, Shape};
+    // what single calls leave, zeros up to the longest included
+    let mut left = shade();
+    left[..19].fill(0);
+    left[..8].copy_from_slice(&[1, 4, 61, 9, 12, 173, 2, 2]);
+    assert_eq!(listed(&step(), (8, 3, Ok((-7, 1)))), left);
+    assert_eq!(listed(&[2, 10, 0], (11, 1, Ok((-4, 1))))[..15], [1, 4, 61, 9, 12, 165, 17, 243, 2, 2, 2, 0, 0, 0, 0]);
+    // it ends at the first that is refused, and what was done before stands
+    let refused = [2, 3, 0];
+    assert_eq!(listed(&[&refused[..], &step()].concat(), (15, 0, fault(Content, 3))), shade());
+    assert_eq!(listed(&[&step(), &refused[..], &step()].concat(), (8, 3, fault(Content, 3))), left);
+    // the list itself, before any edit is run
+    assert_eq!(listed(&[], (15, 0, fault(Shape, 0))), shade());
+    for length in (1..step().len()).filter(|&length| length != 7 && length != 10) {
+        assert_eq!(listed(&step()[..length], (15, 0, fault(Shape, 0))), shade());
+    }
+    let set = [4, 0, 2, 4, 69];
+    let mut done = shade();
+    done[2] = 69;
+    assert_eq!(listed(&set.repeat(MOST_EDITS), (15, MOST_EDITS, Ok((0, 2)))), done);
+    assert_eq!(listed(&set.repeat(MOST_EDITS + 1), (15, 0, fault(Room, 0))), shade());
+    assert_eq!(listed(&[&set.repeat(MOST_EDITS)[..], &[4]].concat(), (15, 0, fault(Room, 0))), shade());
+    // a piece over 8,192 tokens that is all there is its edit's own fault
+    let long = vec![243; MOST_TOKENS + 1];
+    let edit: Vec<u32> = Edit::insert(7, &long).numbers().collect();
+    assert_eq!(listed(&[&set[..], &edit].concat(), (15, 1, fault(Shape, 0))), done);
+    // the table and the document are the first edit's
+    let none = Table::from_words(Box::new([0; TABLE_WORDS]));
+    let listed = none.list(&mut shade(), 15, &step());
+    assert_eq!((listed.used, listed.done, listed.last.map(|_| ())), (15, 0, fault(Refusal::Table, 0)));
+    let listed = table().list(&mut shade(), usize::MAX, &step());
+    assert_eq!((listed.used, listed.done, listed.last.map(|_| ())), (usize::MAX, 0, fault(Shape, 0)));
 }
 
 #[test]

@@ -1,12 +1,13 @@
 //! A host in Rust: loads a schema, a document and edits from the files of a folder, and says in words what comes of each; of an edit that is
 //! done also how the length changed, and at how many children it looked. Then it takes back all that were done, the last one first, and says
-//! whether the document is the first one again.
+//! whether the document is the first one again. Then it makes the edits of the file as a script step, in one call, which ends at the first that
+//! is refused; and, of the first document, those that were done, and says whether that gives the document of single edits.
 //!
 //!     cargo run -- ../../samples/small-shade
 //!
 //! Ends with 0 once every edit was tried and taken back, and with 1 if the library, a file, the schema or the document is refused, or if the
-//! document is another one in the end.
-use shrikemuff::{library_version, numbers, read, serves, Edit, Refusal, Table, MOST_BACK, MOST_TOKENS};
+//! document is another one after the steps back or after the last list.
+use shrikemuff::{library_version, numbers, read, serves, Edit, Refusal, Table, MOST_BACK, MOST_EDITS, MOST_TOKENS};
 use std::fs::File;
 use std::io::Read;
 use std::path::Path;
@@ -90,24 +91,64 @@ impl Document {
         }
     }
 
+    /// Makes the edits of a list, 256 in a call, up to one that is refused.
+    fn script(&mut self, edits: &[Vec<u32>]) {
+        let mut left = edits;
+        loop {
+            let (list, behind) = left.split_at(left.len().min(MOST_EDITS));
+            left = behind;
+            let listed = self.table.list(&mut self.tokens, self.used, &list.concat());
+            self.used = listed.used;
+            let what = format!("list of {} edits, {} done", list.len(), listed.done);
+            match listed.last {
+                Ok(last) => println!("{what}: done, {} tokens, {:+}, looked at {}", self.used, last.change, last.children),
+                Err(fault) => println!("{what}: refused, {fault}, {} tokens", self.used),
+            }
+            if listed.last.is_err() || left.is_empty() {
+                return;
+            }
+        }
+    }
+
+    /// Whether the document is that one; and says so, or that it stops the program.
+    fn is(&self, other: &[u32], which: &str) -> Result<(), String> {
+        if self.tokens[..self.used] != *other {
+            return Err(format!("document: not {which}, {} tokens", self.used));
+        }
+        println!("document: {which}, {} tokens", self.used);
+        Ok(())
+    }
+
     /// Makes all edits of a file, and takes back those that were done, the last one first.
-    fn there_and_back(&mut self, mut file: &[u8]) -> Result<(), Refusal> {
+    fn there_and_back(&mut self, mut file: &[u8]) -> Result<Made, Refusal> {
+        let mut made = Made::default();
         let mut steps: Vec<(u32, Vec<u32>)> = Vec::new();
         let (mut piece, mut back) = (Vec::new(), vec![0; MOST_BACK]);
         let mut line = 0;
         while !file.is_empty() {
             line += 1;
             let edit = next_edit(&mut file, &mut piece)?;
+            made.all.push(edit.numbers().collect());
             if let Some(step) = self.edit(format!("edit {line}"), edit, &mut back) {
+                made.done.push(edit.numbers().collect());
                 steps.push((line, step.numbers().collect()));
             }
         }
+        made.document = self.tokens[..self.used].to_vec();
         while let Some((line, step)) = steps.pop() {
             let edit = Edit::read(&step).expect("the numbers of an edit");
             self.edit(format!("back from edit {line}"), edit, &mut back);
         }
-        Ok(())
+        Ok(made)
     }
+}
+
+/// The edits of a file as numbers, all of them and those that were done, and the document after them.
+#[derive(Default)]
+struct Made {
+    all: Vec<Vec<u32>>,
+    done: Vec<Vec<u32>>,
+    document: Vec<u32>,
 }
 
 /// Says what comes of everything; or what stops the program.
@@ -128,12 +169,13 @@ fn run(folder: &Path) -> Result<(), String> {
 
     let first = tokens[..used].to_vec();
     let mut document = Document { table, tokens, used };
-    document.there_and_back(&edits).map_err(|refusal| format!("edits: refused, {refusal}"))?;
-    if document.tokens[..document.used] != first {
-        return Err(format!("document: not the first one, {} tokens", document.used));
-    }
-    println!("document: the first one again, {} tokens", document.used);
-    Ok(())
+    let made = document.there_and_back(&edits).map_err(|refusal| format!("edits: refused, {refusal}"))?;
+    document.is(&first, "the first one again")?;
+    document.script(&made.all);
+    document.tokens[..first.len()].copy_from_slice(&first);
+    document.used = first.len();
+    document.script(&made.done);
+    document.is(&made.document, "that of single edits")
 }
 
 fn main() -> ExitCode {
