@@ -1,10 +1,10 @@
 /* shrikemuff.h: small XML documents, held as tokens, kept to their schema.
  *
- * Ten calls: a document file is read into tokens and written from them; a DTD's text becomes a schema file, its names are listed, and the
+ * Eleven calls: a document file is read into tokens and written from them; a DTD's text becomes a schema file, its names are listed, and the
  * spot is told at which it is refused; a schema file is translated to a table; a document is checked by a table; a document is edited, and
- * stays as it was unless the edited document keeps to the schema, and each edit that is done tells the one that takes it back; a script step,
- * a list of edits, is made in one call; two tables are compared, whether the new one takes what the old one takes in an element. An eleventh
- * tells the library's version.
+ * stays as it was unless the edited document keeps to the schema, and each edit that is done tells the one that takes it back; a script
+ * step, a list of edits, is made in one call; the numbers of elements, which checks, edits and lists keep beside a document, are asked for;
+ * two tables are compared, whether the new one takes what the old one takes in an element. A twelfth tells the library's version.
  * Link libshrikemuff.a. ISO C99, and C++; Linux on x86-64.
  *
  * What each call answers, and what it leaves in every place of the memory lent to it, is proved of the source that the library is compiled
@@ -16,7 +16,8 @@
  * All memory is the caller's: lent for the call, and not kept. No call allocates, none has state, none needs setting up.
  *
  * An array is lent as a pointer and its length in elements (not in bytes), and has that many. It is aligned for its type: 4 bytes for
- * uint32_t, 8 for uint64_t. With length 0 nothing is read or written, and the pointer may be anything, NULL too.
+ * uint32_t and int32_t, 8 for uint64_t. With length 0 nothing is read or written, and the pointer may be anything, NULL too. `counts` alone is lent
+ * without a length: it always has SHRIKE_COUNT_PLACES places, of int32_t, and is never NULL.
  *
  * An array that a call writes to (a pointer without `const`) overlaps nothing else that is lent to that call.
  *
@@ -37,6 +38,7 @@
  *     shrike_check                    under 42,000
  *     shrike_edit                     under 75,000
  *     shrike_list                     under 225,000
+ *     shrike_elements                 under 5,000
  *     shrike_compare                  under 57,000
  *
  * So a thread keeps 256 KiB free. (A main thread has 8 MiB by custom. Threads of musl have 128 KiB unless they ask for more.) A large
@@ -137,25 +139,40 @@
  * Words of no use, and the blocks from E on, are 0. For kinds 0 and 1 everything from n on is 0.
  *
  *
+ * COUNTS
+ *
+ * Beside a document stand SHRIKE_COUNT_PLACES counts: count k is the number of elements of name k, for names below the number of elements E
+ * of the schema. Names of E and above are counted nowhere, and those counts are 0. Counts that say so are true. The host keeps one array for
+ * each document, lends it to each call, and need not look into it: shrike_elements answers from it.
+ *
+ * A check that says valid writes true counts. Edits and lists carry them along: an edit that is done moves them by what comes less what goes,
+ * and looks at nothing else for it. So true counts stay true, whether an edit is done or refused, and are always those that a fresh check
+ * would write. A host that changes a document in any other way checks it before the next edit or list.
+ *
+ * Counts that are not true are taken too, whatever they hold. Sums are exact. An edit after which one of them would be below 0 or above 8,192
+ * is refused (15), also one that moves none; true counts never meet this.
+ *
+ *
  * ANSWERS
  *
- *                                                   read  write  import  names  spot  translate  check  edit  list  compare
- *      0  valid, or done                              *     *       *      *      *       *        *      *     *      *
+ *                                                   read  write  import  names  spot  translate  check  edit  list  elements  compare
+ *      0  valid, or done                              *     *       *      *      *       *        *      *     *       *        *
  *      1  broken number                               *                                   *
  *      2  schema value, form or limit                               *      *      *       *
  *      3  ambiguous model                                                                 *
  *      4  no shape, or bad piece                            *                                      *      *     *
- *      5  too large, or no room                       *     *       *      *                              *     *      *
- *      6  operation, place or element                                                                     *     *      *
+ *      5  too large, or no room                       *     *       *      *                              *     *                *
+ *      6  operation, place or element                                                                     *     *                *
  *      7  name: the element is not declared                                                               *     *
  *      8  attributes                                                                               *      *     *
  *      9  content                                                                                  *      *     *
  *     10  root: not the schema's                                                                   *      *     *
  *     11  ID twice                                                                                 *      *     *
  *     12  reference to no ID                                                                       *      *     *
- *     13  table: not of 6,626 words, or not proper                                        *        *      *     *      *
+ *     13  table: not of 6,626 words, or not proper                                        *        *      *     *       *        *
  *     14  DTD text                                                  *      *      *
- *     16  kind not compared                                                                                            *
+ *     15  counts: one below 0 or above 8,192                                                              *     *       *
+ *     16  kind not compared                                                                                                      *
  *
  * A call gives the first that applies, in the order that stands with it. shrike_words(number) says an answer in words.
  *
@@ -272,6 +289,11 @@ enum {
     SHRIKE_SEQUENCE_PLACES = 4290
 };
 
+/* The places of counts: one for each element that a schema can have. */
+enum {
+    SHRIKE_COUNT_PLACES = 48
+};
+
 /* Answer numbers. */
 enum {
     SHRIKE_DONE = 0,
@@ -289,6 +311,7 @@ enum {
     SHRIKE_NO_ID = 12,
     SHRIKE_TABLE = 13,
     SHRIKE_DTD_TEXT = 14,
+    SHRIKE_COUNTS = 15,
     SHRIKE_NOT_COMPARED = 16
 };
 
@@ -319,6 +342,7 @@ static inline const char *shrike_words(uint32_t number) {
     case SHRIKE_NO_ID: return "reference to none";
     case SHRIKE_TABLE: return "table";
     case SHRIKE_DTD_TEXT: return "DTD text";
+    case SHRIKE_COUNTS: return "counts";
     case SHRIKE_NOT_COMPARED: return "kind not compared";
     default: return "unknown answer";
     }
@@ -329,7 +353,8 @@ static inline int shrike_serves(uint32_t version) {
     return version / 1000000 == SHRIKE_VERSION / 1000000 && version / 1000 >= SHRIKE_VERSION / 1000;
 }
 
-/* The answer of shrike_read, shrike_write, shrike_import and shrike_names. count: the tokens read, or the bytes written; 0 when refused. */
+/* The answer of shrike_read, shrike_write, shrike_import, shrike_names and shrike_elements. count: the tokens read, the bytes written, or the
+ * elements; 0 when refused. */
 typedef struct {
     uint32_t number, count;
 } shrike_count;
@@ -415,13 +440,15 @@ shrike_spot shrike_import_spot(const uint8_t *text, size_t n);
  * (2); after a model's symbols, whether they are one expression of at most 64 names (2), then ambiguity (3); bytes left at the end (2). */
 uint32_t shrike_translate(const uint8_t *file, size_t file_len, uint64_t *table, size_t words);
 
-/* Checks the document in the first `used` places of `doc`.
+/* Checks the document in the first `used` places of `doc`. Valid: `counts` holds how many elements of each name it has, and 0 for names of E
+ * and above. Not valid: `counts` keeps its contents.
  *
  * Order: the table (13); shape, and `used` over `room` (4); the root's name (10); then each element by rising place: its attributes (8: each
  * one allowed, all required ones present, one value each unless IDREFS), then its content (9: an empty element has no child and no text, a
  * text-only one has no text or one and no child, one with a model has no text and children that the model describes); then an ID that
  * stands twice (11); then a reference to no ID (12). */
-shrike_verdict shrike_check(const uint64_t *table, size_t words, const uint32_t *doc, size_t room, uint64_t used);
+shrike_verdict shrike_check(const uint64_t *table, size_t words, const uint32_t *doc, size_t room, uint64_t used,
+                            int32_t *counts);
 
 /* Edits the document in the first `used` places of `doc`, if the edited document keeps to the schema at what the edit touches. From a valid
  * document, an edit is done only if the edited document is valid.
@@ -433,7 +460,7 @@ shrike_verdict shrike_check(const uint64_t *table, size_t words, const uint32_t 
  *   5 drop     the piece is one attribute token: that attribute of the element that starts at `place` goes, with its values
  *
  * Done: `doc` holds the edited document, then 0 up to the old length; `back` holds the edit that takes this one back. In both, later places
- * keep their contents. Refused: nothing is written to either.
+ * keep their contents. `counts` has moved by the elements that came less those that went. Refused: nothing is written to any of them.
  *
  * What stands in `back` is an operation, the same place, the number of tokens in a piece, and the piece: 3 places and those of the piece.
  * SHRIKE_MOST_BACK places are always enough. An edit is taken back
@@ -446,12 +473,12 @@ shrike_verdict shrike_check(const uint64_t *table, size_t words, const uint32_t 
  *
  * So the step back is
  *
- *     shrike_edit(table, words, doc, room, used, back[0], back[1], back + 3, back[2], other, SHRIKE_MOST_BACK)
+ *     shrike_edit(table, words, doc, room, used, back[0], back[1], back + 3, back[2], other, SHRIKE_MOST_BACK, counts)
  *
  * with the `used` that was answered, and with another buffer for the edit that takes the step back: `back` overlaps neither `doc` nor
- * `piece`. If the document was valid before an edit that was done, the step back from it is always done in the same `doc`, if `other` has
- * room for what is written there, and gives back every token of the document and its length. So a run of edits is taken back to the first
- * document, the last one that was done first. A step back from a step back makes the edit again.
+ * `piece`. If the document was valid before an edit that was done, and the counts true, the step back from it is always done in the same
+ * `doc`, if `other` has room for what is written there, and gives back every token of the document, its length and its counts. So a run of
+ * edits is taken back to the first document, the last one that was done first. A step back from a step back makes the edit again.
  *
  * What the edit cost is told by `children`: the children and texts of the parent (for set and drop of the element itself) in the edited
  * document, plus those of every element in the piece. A replaced root has no parent, which counts 0; elements that went do not count. It is
@@ -459,16 +486,16 @@ shrike_verdict shrike_check(const uint64_t *table, size_t words, const uint32_t 
  *
  * Order: the table (13); shape, and `used` over `room` (4); operation (6); the piece (4), which also has at most 8,192 tokens and is at most
  * 64 deep by itself; `place` (6); the result over 8,192 tokens, over 64 deep or over `room` (5); `back_room` below what is to be written
- * there (5); then the edited document: the root's name (10); at touched elements, by rising place, the name (7), attributes (8) and content
- * (9); IDs (11); references (12). Touched are the parent (for set and drop the element itself) and all elements of the piece. Places are
- * those of the edited document. */
+ * there (5); a count that would be below 0 or above 8,192 (15); then the edited document: the root's name (10); at touched elements, by
+ * rising place, the name (7), attributes (8) and content (9); IDs (11); references (12). Touched are the parent (for set and drop the
+ * element itself) and all elements of the piece. Places are those of the edited document. */
 shrike_answer shrike_edit(const uint64_t *table, size_t words, uint32_t *doc, size_t room, uint64_t used, uint32_t operation,
-                          uint64_t place, const uint32_t *piece, size_t n, uint32_t *back, size_t back_room);
+                          uint64_t place, const uint32_t *piece, size_t n, uint32_t *back, size_t back_room, int32_t *counts);
 
 /* Makes the edits of a list one after another: a script step in one call. It ends at the first edit that is refused; what was done before
- * stands. Document, last answer and number of edits done are those of single calls of shrike_edit, each with the `used` that the one before
- * answered and with room for what takes it back. The table and the document's shape are tested once, so that a list costs less than its
- * single calls.
+ * stands. Document, counts, last answer and number of edits done are those of single calls of shrike_edit, each with the `used` that the one
+ * before answered and with room for what takes it back. The table and the document's shape are tested once, so that a list costs less than
+ * its single calls.
  *
  * The `n` numbers of `list` are 1 to 256 edits, end to end, each of them as shrike_edit writes one to `back`: an operation, a place, the
  * number of tokens in a piece, and the piece. A place is one of the document as the edits before it left it.
@@ -480,7 +507,13 @@ shrike_answer shrike_edit(const uint64_t *table, size_t words, uint32_t *doc, si
  * (4); a 257th edit begun (5), so that 256 edits and anything behind them are 5. Then nothing is written, and `last` has the number, the
  * `used` that was given, and 0 for the rest. Then the edits, each in the order of shrike_edit, from the table (13) and shape (4) on. A piece
  * over 8,192 tokens that is all there is its edit's 4. */
-shrike_listed shrike_list(const uint64_t *table, size_t words, uint32_t *doc, size_t room, uint64_t used, const uint32_t *list, size_t n);
+shrike_listed shrike_list(const uint64_t *table, size_t words, uint32_t *doc, size_t room, uint64_t used, const uint32_t *list, size_t n,
+                          int32_t *counts);
+
+/* How many elements of a name the document has, by its counts: 0 for a name of E and above, whatever the counts hold there.
+ *
+ * Order: the table (13); any of the counts below 0 or above 8,192 (15). */
+shrike_count shrike_elements(const uint64_t *table, size_t words, const int32_t *counts, uint32_t name);
 
 /* Compares the content of an element in two tables: does the new one take every sequence of children that the old one takes?
  *

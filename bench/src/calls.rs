@@ -1,4 +1,4 @@
-//! The ten calls and their answers, as every contender of the benchmark offers them.
+//! The eleven calls and their answers, as every contender of the benchmark offers them.
 
 #[derive(Clone, Copy, Debug, PartialEq, Eq)]
 pub struct Count {
@@ -40,6 +40,9 @@ pub struct Compared {
     pub length: u32,
 }
 
+/// The elements of each name.
+pub type Counts = [i32; 48];
+
 pub const INSERT: u32 = 1;
 pub const REMOVE: u32 = 2;
 pub const REPLACE: u32 = 3;
@@ -62,7 +65,7 @@ impl Edit {
 }
 
 /// What the core and the plain version both do. A buffer is the whole slice; `used` says how much of it is the document. An edit writes the
-/// one that takes it back into `back`.
+/// one that takes it back into `back`. The counts of a document are lent beside it.
 pub trait Calls {
     fn name(&self) -> &'static str;
     fn read(&self, file: &[u8], tokens: &mut [u32]) -> Count;
@@ -71,9 +74,20 @@ pub trait Calls {
     fn names(&self, text: &[u8], names: &mut [u8]) -> Count;
     fn import_spot(&self, text: &[u8]) -> Spot;
     fn translate(&self, file: &[u8], table: &mut [u64]) -> u32;
-    fn check(&self, table: &[u64], buffer: &[u32], used: u64) -> Verdict;
+    fn check(&self, table: &[u64], buffer: &[u32], used: u64, counts: &mut Counts) -> Verdict;
     #[allow(clippy::too_many_arguments)]
-    fn edit(&self, table: &[u64], buffer: &mut [u32], used: u64, operation: u32, place: u64, piece: &[u32], back: &mut [u32]) -> Answer;
-    fn list(&self, table: &[u64], buffer: &mut [u32], used: u64, list: &[u32]) -> Listed;
+    fn edit(
+        &self,
+        table: &[u64],
+        buffer: &mut [u32],
+        used: u64,
+        operation: u32,
+        place: u64,
+        piece: &[u32],
+        back: &mut [u32],
+        counts: &mut Counts,
+    ) -> Answer;
+    fn list(&self, table: &[u64], buffer: &mut [u32], used: u64, list: &[u32], counts: &mut Counts) -> Listed;
+    fn elements(&self, table: &[u64], counts: &Counts, name: u32) -> Count;
     fn compare(&self, old: &[u64], new: &[u64], element: u32, sequence: &mut [u32]) -> Compared;
 }

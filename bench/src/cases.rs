@@ -1,7 +1,7 @@
 //! What is timed: inputs, how each contender runs them, and whether the contenders agree.
 
-use bench::calls::{Answer, Calls, Compared, Count, Edit, Spot, Verdict};
-use bench::plain::{BACK, PLACES, WORDS};
+use bench::calls::{Answer, Calls, Compared, Count, Counts, Edit, Spot, Verdict};
+use bench::plain::{Keys, Plain, BACK, PLACES, WORDS};
 use std::rc::Rc;
 
 #[cfg(feature = "libxml2")]
@@ -63,6 +63,13 @@ pub enum Input {
         new: Vec<u64>,
         lost: Option<usize>,
     },
+    /// The question for the elements of a name, which has `count`.
+    Elements {
+        table: Rc<Vec<u64>>,
+        counts: Counts,
+        name: u32,
+        count: u32,
+    },
     /// A list of edits that are all done, and the one that takes it back.
     List(ListInput),
     /// From the files of schema and document to a judged document: translate, read and check; `text` is both as XML.
@@ -87,10 +94,22 @@ struct Outcome {
     bytes: Vec<u8>,
     table: Vec<u64>,
     left: Option<Left>,
+    elements: Vec<Counts>,
 }
 
-fn edit(calls: &dyn Calls, table: &[u64], buffer: &mut [u32], used: u64, edit: &Edit, back: &mut [u32]) -> Answer {
-    calls.edit(table, buffer, used, edit.operation, edit.place, from_outside(&edit.piece[..]), back)
+/// What is lent where a check is to write counts.
+const NO_COUNTS: Counts = [-7; 48];
+
+/// The counts of a valid document.
+pub fn counts_of(table: &[u64], buffer: &[u32], used: u64) -> Counts {
+    let mut counts = NO_COUNTS;
+    let verdict = Plain { keys: Keys::Field }.check(table, buffer, used, &mut counts);
+    assert_eq!(verdict.number, 0, "a document whose elements are counted is valid");
+    counts
+}
+
+fn edit(calls: &dyn Calls, table: &[u64], buffer: &mut [u32], used: u64, edit: &Edit, back: &mut [u32], counts: &mut Counts) -> Answer {
+    calls.edit(table, buffer, used, edit.operation, edit.place, from_outside(&edit.piece[..]), back, counts)
 }
 
 impl Input {
@@ -131,22 +150,33 @@ impl Input {
         let mut outcome = Outcome::default();
         let expected = match self {
             Input::Check { table, buffer, used, number, .. } => {
-                outcome.verdicts.push(calls.check(table, buffer, *used));
+                let mut counts = NO_COUNTS;
+                outcome.verdicts.push(calls.check(table, buffer, *used, &mut counts));
+                outcome.elements.push(counts);
                 outcome.verdicts[0].number == *number
             }
             Input::Pair { table, buffer, used, edit: there, back, .. } => {
                 let (mut lent, mut noted) = (buffer.clone(), [vec![7; BACK], vec![7; BACK]]);
-                let done = edit(calls, table, &mut lent, *used, there, &mut noted[0]);
+                let mut counts = counts_of(table, buffer, *used);
+                let done = edit(calls, table, &mut lent, *used, there, &mut noted[0], &mut counts);
                 outcome.tokens.push(lent.clone());
-                let undone = edit(calls, table, &mut lent, done.used, back, &mut noted[1]);
+                outcome.elements.push(counts);
+                let undone = edit(calls, table, &mut lent, done.used, back, &mut noted[1], &mut counts);
+                outcome.elements.push(counts);
                 outcome.answers.extend([done, undone]);
                 outcome.tokens.push(lent);
                 outcome.tokens.extend(noted);
-                done.number == 0 && undone.number == 0 && outcome.tokens[1] == *buffer
+                done.number == 0
+                    && undone.number == 0
+                    && outcome.tokens[1] == *buffer
+                    && outcome.elements[0] == counts_of(table, &outcome.tokens[0], done.used)
+                    && outcome.elements[1] == counts_of(table, buffer, *used)
             }
             Input::Refused { table, buffer, used, edit: refused, number } => {
                 let (mut lent, mut noted) = (buffer.clone(), vec![7; BACK]);
-                outcome.answers.push(edit(calls, table, &mut lent, *used, refused, &mut noted));
+                let mut counts = counts_of(table, buffer, *used);
+                outcome.answers.push(edit(calls, table, &mut lent, *used, refused, &mut noted, &mut counts));
+                outcome.elements.push(counts);
                 outcome.tokens.extend([lent, noted]);
                 outcome.answers[0].number == *number && outcome.tokens[0] == *buffer
             }
@@ -182,6 +212,10 @@ impl Input {
                 outcome.tokens.push(lent);
                 outcome.compared[0] == compared(*lost)
             }
+            Input::Elements { table, counts, name, count } => {
+                outcome.counts.push(calls.elements(table, counts, *name));
+                outcome.counts[0] == Count { number: 0, count: *count }
+            }
             Input::List(input) => {
                 outcome.left = Some(input.left(calls)?);
                 true
@@ -214,23 +248,30 @@ impl Input {
     fn job<'a>(&'a self, calls: &'a dyn Calls) -> Job<'a> {
         match self {
             Input::List(_) => unreachable!("a list has jobs of its own"),
-            Input::Check { table, buffer, used, number, .. } => Box::new(move |count| {
-                repeat(count, || assert_eq!(calls.check(from_outside(&table[..]), from_outside(&buffer[..]), *used).number, *number))
-            }),
+            Input::Check { table, buffer, used, number, .. } => {
+                let mut counts = NO_COUNTS;
+                Box::new(move |count| {
+                    repeat(count, || {
+                        let verdict = calls.check(from_outside(&table[..]), from_outside(&buffer[..]), *used, &mut counts);
+                        assert_eq!(verdict.number, *number)
+                    })
+                })
+            }
             Input::Pair { table, buffer, used, edit: there, back, .. } => {
-                let mut state = (buffer.clone(), *used, vec![0; BACK]);
-                let step = move |(buffer, used, noted): &mut (Vec<u32>, u64, Vec<u32>), step: &Edit| {
-                    let answer = edit(calls, from_outside(&table[..]), buffer, *used, step, noted);
+                let mut state = (buffer.clone(), *used, vec![0; BACK], counts_of(table, buffer, *used));
+                let step = move |(buffer, used, noted, counts): &mut (Vec<u32>, u64, Vec<u32>, Counts), step: &Edit| {
+                    let answer = edit(calls, from_outside(&table[..]), buffer, *used, step, noted, counts);
                     assert_eq!(answer.number, 0);
                     *used = answer.used;
                 };
                 Box::new(move |count| repeat_pair(count, &mut state, |state| step(state, there), |state| step(state, back)))
             }
             Input::Refused { table, buffer, used, edit: refused, number } => {
-                let (mut buffer, mut noted) = (buffer.clone(), vec![0; BACK]);
+                let (mut buffer, mut noted, mut counts) = (buffer.clone(), vec![0; BACK], counts_of(table, buffer, *used));
                 Box::new(move |count| {
                     repeat(count, || {
-                        assert_eq!(edit(calls, from_outside(&table[..]), &mut buffer, *used, refused, &mut noted).number, *number);
+                        let answer = edit(calls, from_outside(&table[..]), &mut buffer, *used, refused, &mut noted, &mut counts);
+                        assert_eq!(answer.number, *number);
                     })
                 })
             }
@@ -258,6 +299,9 @@ impl Input {
                     })
                 })
             }
+            Input::Elements { table, counts, name, count: elements } => Box::new(move |count| {
+                repeat(count, || assert_eq!(calls.elements(from_outside(&table[..]), from_outside(counts), *name).count, *elements))
+            }),
             Input::Load { schema, file, tokens, .. } => {
                 let (mut table, mut buffer) = (vec![0; WORDS], vec![0; *tokens]);
                 Box::new(move |count| {
@@ -311,5 +355,5 @@ fn load(calls: &dyn Calls, schema: &[u8], file: &[u8], table: &mut [u64], buffer
     if read.number != 0 {
         return Verdict { number: read.number, place: 0 };
     }
-    calls.check(table, buffer, u64::from(read.count))
+    calls.check(table, buffer, u64::from(read.count), &mut NO_COUNTS.clone())
 }

@@ -1,6 +1,6 @@
 //! Calls drawn by chance from small documents of every mix: the contenders must agree on them too, refusals included.
 
-use bench::calls::{Calls, Edit};
+use bench::calls::{Calls, Counts, Edit};
 use bench::documents::{file, Dice, Mix, MIXES};
 use bench::plain::{BACK, PLACES, WORDS};
 use bench::texts;
@@ -16,7 +16,7 @@ pub fn agree(contenders: &[&dyn Calls], count: u32) -> Result<u64, String> {
         let mut dice = Dice::new(k as u64 + 7);
         for round in 0..count {
             agree_once(contenders, mix, &mut dice).map_err(|what| format!("{}, round {}: {}", mix.name(), round, what))?;
-            calls += 10;
+            calls += 11;
         }
     }
     Ok(calls)
@@ -68,21 +68,27 @@ fn agree_once(contenders: &[&dyn Calls], mix: Mix, dice: &mut Dice) -> Result<()
         });
     }
     let used = tokens.len() as u64;
-    same("check", contenders, |calls| calls.check(&table, &tokens, used))?;
+    let counts = any_counts(contenders[0], &table, &tokens, dice);
+    same("check", contenders, |calls| {
+        let mut lent = counts;
+        (calls.check(&table, &tokens, used, &mut lent), lent)
+    })?;
+    let name = dice.below(50);
+    same("elements", contenders, |calls| calls.elements(&table, &counts, name))?;
 
     let mut buffer = tokens.clone();
     buffer.resize(tokens.len() + dice.below(12) as usize, 7);
     let edit = any_edit(&tokens, dice);
     let room = if dice.below(4) == 0 { dice.below(12) as usize } else { BACK };
     same("edit", contenders, |calls| {
-        let (mut lent, mut back) = (buffer.clone(), vec![7; room]);
-        (calls.edit(&table, &mut lent, used, edit.operation, edit.place, &edit.piece, &mut back), lent, back)
+        let (mut lent, mut back, mut counts) = (buffer.clone(), vec![7; room], counts);
+        (calls.edit(&table, &mut lent, used, edit.operation, edit.place, &edit.piece, &mut back, &mut counts), lent, back, counts)
     })?;
 
     let list = any_list(&tokens, dice);
     same("list", contenders, |calls| {
-        let mut lent = buffer.clone();
-        (calls.list(&table, &mut lent, used, &list), lent)
+        let (mut lent, mut counts) = (buffer.clone(), counts);
+        (calls.list(&table, &mut lent, used, &list, &mut counts), lent, counts)
     })?;
 
     let mut bytes = file(&tokens);
@@ -147,6 +153,18 @@ fn any_edit(tokens: &[u32], dice: &mut Dice) -> Edit {
         piece[at] = (piece[at] & 7) | dice.below(45) << 3;
     }
     Edit { operation, place: u64::from(place), piece }
+}
+
+/// The counts of the document if it is valid, else all 100; now and then with one that is near or past an end of the range.
+fn any_counts(calls: &dyn Calls, table: &[u64], tokens: &[u32], dice: &mut Dice) -> Counts {
+    let mut counts = [100; 48];
+    calls.check(table, tokens, tokens.len() as u64, &mut counts);
+    if dice.below(4) == 0 {
+        let ends = [-1, 0, 1, 8191, 8192, 8193, i32::MIN, i32::MAX];
+        let name = if dice.below(2) == 0 { dice.below(4) } else { dice.below(48) };
+        counts[name as usize] = ends[dice.below(ends.len() as u32) as usize];
+    }
+    counts
 }
 
 /// The numbers of a few edits, now and then of too many, or disturbed.

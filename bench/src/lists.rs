@@ -1,10 +1,11 @@
 //! A script step: what is timed of it, and whether the contenders agree on it.
 
-use bench::calls::{Answer, Calls, Edit, Listed};
-use bench::plain::BACK;
+use bench::calls::{Answer, Calls, Counts, Edit, Listed};
+use bench::plain::{spliced, BACK};
 use bench::steps::{self, Step};
 use std::rc::Rc;
 
+use crate::cases::counts_of;
 #[cfg(feature = "libxml2")]
 use crate::libxml2::{
     changes::{text_of, Script, Validation},
@@ -19,6 +20,7 @@ pub struct ListInput {
     pub buffer: Vec<u32>,
     pub used: u64,
     pub step: Step,
+    counts: Counts,
     lists: [Vec<u32>; 2],
     /// The document before and behind the step, as XML.
     #[cfg_attr(not(feature = "libxml2"), allow(dead_code))]
@@ -30,25 +32,27 @@ pub struct ListInput {
 pub struct Left {
     listed: [Listed; 2],
     buffers: [Vec<u32>; 2],
+    counts: [Counts; 2],
 }
 
 impl ListInput {
     pub fn new(table: Rc<Vec<u64>>, buffer: Vec<u32>, used: u64, step: Step, texts: [String; 2]) -> ListInput {
         let lists = [steps::numbers(&step.there), steps::numbers(&step.back)];
-        ListInput { table, buffer, used, step, lists, texts }
+        let counts = counts_of(&table, &buffer, used);
+        ListInput { table, buffer, used, step, counts, lists, texts }
     }
 
     /// What both lists leave by a contender, if all edits are done and the step is taken back.
     pub fn left(&self, calls: &dyn Calls) -> Result<Left, String> {
-        let mut lent = self.buffer.clone();
-        let there = calls.list(&self.table, &mut lent, self.used, &self.lists[0]);
-        let behind = lent.clone();
-        let back = calls.list(&self.table, &mut lent, there.last.used, &self.lists[1]);
+        let (mut lent, mut counts) = (self.buffer.clone(), self.counts);
+        let there = calls.list(&self.table, &mut lent, self.used, &self.lists[0], &mut counts);
+        let (behind, counts_behind) = (lent.clone(), counts);
+        let back = calls.list(&self.table, &mut lent, there.last.used, &self.lists[1], &mut counts);
         let is_step = behind[..there.last.used as usize] == self.step.tokens[..];
         if !is_step || [there, back].iter().any(|listed| !self.is_done(listed)) || lent != self.buffer {
             return Err(format!("{} does not make a list: {:?} {:?}", calls.name(), there, back));
         }
-        let left = Left { listed: [there, back], buffers: [behind, lent] };
+        let left = Left { listed: [there, back], buffers: [behind, lent], counts: [counts_behind, counts] };
         self.agrees_with_single_calls(calls, &left)?;
         Ok(left)
     }
@@ -67,11 +71,12 @@ impl ListInput {
 
     /// The contender's list leaves what its single calls leave.
     fn agrees_with_single_calls(&self, calls: &dyn Calls, left: &Left) -> Result<(), String> {
-        let (mut buffer, mut used, mut noted) = (self.buffer.clone(), self.used, vec![0; BACK]);
+        let (mut buffer, mut used, mut noted, mut counts) = (self.buffer.clone(), self.used, vec![0; BACK], self.counts);
         for (k, edits) in [&self.step.there, &self.step.back].into_iter().enumerate() {
-            let last = singly(calls, &self.table, &mut buffer, used, edits, &mut noted);
+            let last = singly(calls, &self.table, &mut buffer, used, edits, &mut noted, &mut counts);
             used = last.used;
-            if last != left.listed[k].last || buffer != left.buffers[k] {
+            let is_fresh = counts == counts_of(&self.table, &buffer, used);
+            if last != left.listed[k].last || buffer != left.buffers[k] || counts != left.counts[k] || !is_fresh {
                 return Err(format!("{}: a list and its single calls differ", calls.name()));
             }
         }
@@ -98,11 +103,11 @@ impl ListInput {
     }
 
     fn job<'a>(&'a self, calls: &'a dyn Calls) -> Job<'a> {
-        let (mut buffer, mut used, each) = (self.buffer.clone(), self.used, self.each());
+        let (mut buffer, mut used, mut counts, each) = (self.buffer.clone(), self.used, self.counts, self.each());
         Box::new(move |count| {
             each(repeat(count, || {
                 for list in &self.lists {
-                    let listed = calls.list(from_outside(&self.table[..]), &mut buffer, used, from_outside(&list[..]));
+                    let listed = calls.list(from_outside(&self.table[..]), &mut buffer, used, from_outside(&list[..]), &mut counts);
                     assert!(self.is_done(&listed));
                     used = listed.last.used;
                 }
@@ -112,10 +117,11 @@ impl ListInput {
 
     fn single_job<'a>(&'a self, calls: &'a dyn Calls) -> Job<'a> {
         let (mut buffer, mut used, mut noted, each) = (self.buffer.clone(), self.used, vec![0; BACK], self.each());
+        let mut counts = self.counts;
         Box::new(move |count| {
             each(repeat(count, || {
                 for edits in [&self.step.there, &self.step.back] {
-                    let last = singly(calls, from_outside(&self.table[..]), &mut buffer, used, edits, &mut noted);
+                    let last = singly(calls, from_outside(&self.table[..]), &mut buffer, used, edits, &mut noted, &mut counts);
                     assert_eq!(last.number, 0);
                     used = last.used;
                 }
@@ -137,29 +143,34 @@ impl ListInput {
 
     /// For each edit from where to where, and how many tokens, are moved: those behind it.
     fn moves(&self) -> Vec<(usize, usize, usize)> {
-        let plain = bench::plain::Plain { keys: bench::plain::Keys::Field };
-        let (mut buffer, mut used, mut noted) = (self.buffer.clone(), self.used, vec![0; BACK]);
+        let mut before = self.buffer[..self.used as usize].to_vec();
         let mut moves = Vec::new();
         for edit in self.step.there.iter().chain(&self.step.back) {
-            let before = buffer[..used as usize].to_vec();
-            let last = singly(&plain, &self.table, &mut buffer, used, std::slice::from_ref(edit), &mut noted);
-            used = last.used;
-            let after = &buffer[..used as usize];
+            let after = spliced(&before, edit);
             if before.len() != after.len() {
                 let tail = before.iter().rev().zip(after.iter().rev()).take_while(|(a, b)| a == b).count();
                 let tail = tail.min(before.len() - edit.place as usize);
                 moves.push((before.len() - tail, after.len() - tail, tail));
             }
+            before = after;
         }
         moves
     }
 }
 
 /// Makes the edits, a call each: the answer of the last.
-fn singly(calls: &dyn Calls, table: &[u64], buffer: &mut [u32], used: u64, edits: &[Edit], noted: &mut [u32]) -> Answer {
+fn singly(
+    calls: &dyn Calls,
+    table: &[u64],
+    buffer: &mut [u32],
+    used: u64,
+    edits: &[Edit],
+    noted: &mut [u32],
+    counts: &mut Counts,
+) -> Answer {
     let mut last = Answer { number: 0, place: 0, used, change: 0, children: 0 };
     for edit in edits {
-        last = calls.edit(table, buffer, last.used, edit.operation, edit.place, from_outside(&edit.piece[..]), noted);
+        last = calls.edit(table, buffer, last.used, edit.operation, edit.place, from_outside(&edit.piece[..]), noted, counts);
         assert_eq!(last.number, 0, "an edit of a step is done");
     }
     last

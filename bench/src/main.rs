@@ -32,6 +32,8 @@ const ROOM: usize = 8192;
 const LISTS: [usize; 3] = [1, 16, 256];
 /// The sizes of the plot beside those of the table.
 const MORE_SIZES: [usize; 3] = [500, 2000, 6000];
+/// The element whose number is asked for.
+const ITEM: u32 = 2;
 /// Where a table has the last occurrences of element 0.
 const LAST_OF_0: usize = 2 + 9;
 /// Rounds of calls by chance for each mix.
@@ -179,7 +181,8 @@ fn cases_of(mix: Mix) -> Vec<Case> {
 fn edited(table: &[u64], buffer: &[u32], used: usize, edit: &Edit) -> Vec<u32> {
     let mut lent = buffer.to_vec();
     let plain = Plain { keys: Keys::Field };
-    let answer = plain.edit(table, &mut lent, used as u64, edit.operation, edit.place, &edit.piece, &mut [0; BACK]);
+    let mut counts = cases::counts_of(table, buffer, used as u64);
+    let answer = plain.edit(table, &mut lent, used as u64, edit.operation, edit.place, &edit.piece, &mut [0; BACK], &mut counts);
     if answer.number != 0 {
         stop("the plain version refuses an edit that is to be done");
     }
@@ -239,7 +242,7 @@ fn small_and_bare() -> Vec<Case> {
     cases
 }
 
-/// A document's check, and an edit of it with the one that takes it back.
+/// A document's check, an edit of it with the one that takes it back, and the question for its elements.
 fn judged(name: &'static str, schema: &[u32], tokens: &[u32], pair: documents::Pair) -> Vec<Case> {
     let table = Rc::new(table_of(schema));
     let doctype = xml::doctype(schema);
@@ -248,11 +251,15 @@ fn judged(name: &'static str, schema: &[u32], tokens: &[u32], pair: documents::P
     buffer.resize(ROOM, 0);
     let used = tokens.len();
     let check = Input::Check { table: table.clone(), buffer: buffer.clone(), used: used as u64, number: 0, text: Some(text_of(tokens)) };
+    let counts = cases::counts_of(&table, &buffer, used as u64);
+    let count = counts[ITEM as usize] as u32;
+    let elements = Input::Elements { table: table.clone(), counts, name: ITEM, count };
+    let elements = Case::new(Section::File, name, "elements", used, elements);
     let texts = [text_of(&edited(&table, &buffer, used, &pair.edit)), text_of(tokens)];
     let both = Input::Pair { table, buffer, used: used as u64, edit: pair.edit, back: pair.back, texts };
     let mut edits = Case::new(Section::File, name, pair.name, used, both);
     edits.rows.push(Row::new(Section::File, name, pair.back_name, used));
-    vec![Case::new(Section::File, name, "check", used, check), edits]
+    vec![Case::new(Section::File, name, "check", used, check), edits, elements]
 }
 
 /// A DTD at the limits of elements and attributes in about 8 KB, and hostile texts of 65,536 bytes.
@@ -311,9 +318,10 @@ fn method(plan: &Plan, report: &Report, inputs: usize, by_chance: u64) -> String
     }
     text += &format!(
         "\n## How it was measured\n\n\
-         - Core: the archive's ten calls through C. Plain: a straightforward safe Rust version of the same calls with the same promises \
+         - Core: the archive's eleven calls through C. Plain: a straightforward safe Rust version of the same calls with the same promises \
          (`bench/src/plain`), IDs compared in pairs; the second one marks them in a field of 65,536 bits and is the same otherwise. \
-         Both are compiled with optimisation 3; the archive is not optimised across its border.\n\
+         Both are compiled with optimisation 3; the archive is not optimised across its border. Checks, edits and lists keep the counts of elements, in \
+         all three.\n\
          - Before timing, core and both plain versions gave the same answers and left the same memory on all {} inputs and on {} calls \
          by chance{}.\n\
          - Each time is the median of {} samples; a sample repeats the call for at least {} ms. The clock is that of the thread, which stands still while other programs run. In one round every contender takes one sample \

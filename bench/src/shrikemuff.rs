@@ -1,7 +1,7 @@
 //! The core, through its C interface.
 
 use ::shrikemuff::raw;
-use bench::calls::{Answer, Calls, Compared, Count, Listed, Spot, Verdict};
+use bench::calls::{Answer, Calls, Compared, Count, Counts, Listed, Spot, Verdict};
 
 pub struct Core;
 
@@ -43,22 +43,39 @@ impl Calls for Core {
         unsafe { raw::shrike_translate(file.as_ptr(), file.len(), table.as_mut_ptr(), table.len()) }
     }
 
-    fn check(&self, table: &[u64], buffer: &[u32], used: u64) -> Verdict {
-        let said = unsafe { raw::shrike_check(table.as_ptr(), table.len(), buffer.as_ptr(), buffer.len(), used) };
+    fn check(&self, table: &[u64], buffer: &[u32], used: u64, counts: &mut Counts) -> Verdict {
+        let (words, room) = (table.len(), buffer.len());
+        let said = unsafe { raw::shrike_check(table.as_ptr(), words, buffer.as_ptr(), room, used, counts.as_mut_ptr()) };
         Verdict { number: said.number, place: said.place }
     }
 
-    fn edit(&self, table: &[u64], buffer: &mut [u32], used: u64, operation: u32, place: u64, piece: &[u32], back: &mut [u32]) -> Answer {
+    fn edit(
+        &self,
+        table: &[u64],
+        buffer: &mut [u32],
+        used: u64,
+        operation: u32,
+        place: u64,
+        piece: &[u32],
+        back: &mut [u32],
+        counts: &mut Counts,
+    ) -> Answer {
         let (words, room, n, back_room) = (table.len(), buffer.len(), piece.len(), back.len());
         let (table, doc, piece, back) = (table.as_ptr(), buffer.as_mut_ptr(), piece.as_ptr(), back.as_mut_ptr());
-        let said = unsafe { raw::shrike_edit(table, words, doc, room, used, operation, place, piece, n, back, back_room) };
+        let counts = counts.as_mut_ptr();
+        let said = unsafe { raw::shrike_edit(table, words, doc, room, used, operation, place, piece, n, back, back_room, counts) };
         answer(said)
     }
 
-    fn list(&self, table: &[u64], buffer: &mut [u32], used: u64, list: &[u32]) -> Listed {
-        let (words, room, n) = (table.len(), buffer.len(), list.len());
-        let said = unsafe { raw::shrike_list(table.as_ptr(), words, buffer.as_mut_ptr(), room, used, list.as_ptr(), n) };
+    fn list(&self, table: &[u64], buffer: &mut [u32], used: u64, list: &[u32], counts: &mut Counts) -> Listed {
+        let (words, room, n, counts) = (table.len(), buffer.len(), list.len(), counts.as_mut_ptr());
+        let said = unsafe { raw::shrike_list(table.as_ptr(), words, buffer.as_mut_ptr(), room, used, list.as_ptr(), n, counts) };
         Listed { last: answer(said.last), done: said.done }
+    }
+
+    fn elements(&self, table: &[u64], counts: &Counts, name: u32) -> Count {
+        let said = unsafe { raw::shrike_elements(table.as_ptr(), table.len(), counts.as_ptr(), name) };
+        Count { number: said.number, count: said.count }
     }
 
     fn compare(&self, old: &[u64], new: &[u64], element: u32, sequence: &mut [u32]) -> Compared {

@@ -1,12 +1,14 @@
 //! Script steps: small edits spread over a document, and those that take them back.
 
-use crate::calls::{Calls, Edit, DROP, INSERT, REMOVE, REPLACE, SET};
+use crate::calls::{Calls, Counts, Edit, DROP, INSERT, REMOVE, REPLACE, SET};
 use crate::documents::{Dice, Mix};
 use crate::plain::{Keys, Plain, BACK};
 
 /// The edits of a step in turn: the document is never more than one item longer than at first.
 const TURN: [u32; 5] = [INSERT, REMOVE, SET, DROP, REPLACE];
 const PLAIN: Plain = Plain { keys: Keys::Field };
+/// Counts that no edit brings out of their range.
+const ANY_COUNTS: Counts = [4000; 48];
 
 /// Edits that are all done, in this order, and what takes them back, in that order.
 pub struct Step {
@@ -57,7 +59,7 @@ impl Step {
         let (mut buffer, mut back) = (self.tokens.clone(), vec![0; BACK]);
         buffer.resize(room, 0);
         let used = self.tokens.len() as u64;
-        let answer = PLAIN.edit(table, &mut buffer, used, edit.operation, edit.place, &edit.piece, &mut back);
+        let answer = PLAIN.edit(table, &mut buffer, used, edit.operation, edit.place, &edit.piece, &mut back, &mut ANY_COUNTS.clone());
         if answer.number != 0 {
             return false;
         }

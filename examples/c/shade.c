@@ -1,7 +1,8 @@
 /* A host in C: loads a schema, a document and edits from the files of a folder, and says in words what comes of each; of an edit that is
- * done also how the length changed, and at how many children it looked. Then it takes back all that were done, the last one first, and says
- * whether the document is the first one again. Then it makes the edits of the file as a script step, in one call, which ends at the first that
- * is refused; and, of the first document, those that were done, and says whether that gives the document of single edits.
+ * done also how the length changed, and at how many children it looked; and each time how many panels there are. Then it takes back all that
+ * were done, the last one first, and says whether the document is the first one again. Then it makes the edits of the file as a script step,
+ * in one call, which ends at the first that is refused; and, of the first document, those that were done, and says whether that gives the
+ * document of single edits.
  *
  *     cc -Iinclude -o shade examples/c/shade.c target/staticlib/libshrikemuff.a
  *     ./shade samples/small-shade
@@ -23,6 +24,7 @@ struct bytes {
 
 static struct bytes schema, document, edits;
 static uint64_t table[SHRIKE_TABLE_WORDS], used;
+static int32_t counts[SHRIKE_COUNT_PLACES];
 static uint32_t doc[SHRIKE_MOST_TOKENS], piece[SHRIKE_MOST_TOKENS];
 
 /* The steps back stand end to end in `backs`: an edit is lent all that is free there. The edits of one file do not fill it, as a token that
@@ -43,6 +45,7 @@ static struct list all, good;
 /* The document at first, and after all edits. */
 struct state {
     uint64_t used;
+    int32_t counts[SHRIKE_COUNT_PLACES];
     uint32_t doc[SHRIKE_MOST_TOKENS];
 };
 static struct state first, last;
@@ -60,6 +63,15 @@ static int load(const char *folder, const char *name, struct bytes *b) {
     }
     if (!good) printf("%s: not to be read\n", name);
     return good;
+}
+
+/* Says how many panels there are: element 1 of the small shade. */
+static void panels(void) {
+    shrike_count r = shrike_elements(table, SHRIKE_TABLE_WORDS, counts, 1);
+    if (r.number == SHRIKE_DONE)
+        printf(", panels: %u\n", (unsigned)r.count);
+    else
+        printf(", panels: refused, %s\n", shrike_words(r.number));
 }
 
 /* Says that something is refused. */
@@ -102,11 +114,13 @@ static int told(const char *what, shrike_answer answer) {
     used = answer.used;
     if (answer.number != SHRIKE_DONE) {
         refused(what, answer.number, answer.place);
-        printf(", %llu tokens\n", (unsigned long long)used);
-        return 0;
+        printf(", %llu tokens", (unsigned long long)used);
+    } else {
+        printf("%s: done, %llu tokens, %+d", what, (unsigned long long)used, (int)answer.change);
+        printf(", looked at %u", (unsigned)answer.children);
     }
-    printf("%s: done, %llu tokens, %+d, looked at %u\n", what, (unsigned long long)used, (int)answer.change, (unsigned)answer.children);
-    return 1;
+    panels();
+    return answer.number == SHRIKE_DONE;
 }
 
 /* Makes an edit, and says what comes of it: whether it is done. */
@@ -114,25 +128,27 @@ static int made(const char *what, unsigned line, uint32_t operation, uint32_t pl
                 size_t back_room) {
     char said[64];
     shrike_answer answer =
-        shrike_edit(table, SHRIKE_TABLE_WORDS, doc, SHRIKE_MOST_TOKENS, used, operation, place, with, n, back, back_room);
+        shrike_edit(table, SHRIKE_TABLE_WORDS, doc, SHRIKE_MOST_TOKENS, used, operation, place, with, n, back, back_room, counts);
     snprintf(said, sizeof said, "%s %u, %s at %u", what, line, operations[operation <= SHRIKE_DROP ? operation : 0], (unsigned)place);
     return told(said, answer);
 }
 
-/* The document is kept, and taken again. */
+/* The document and its counts are kept, and taken again. */
 static void keep(struct state *s) {
     s->used = used;
+    memcpy(s->counts, counts, sizeof counts);
     memcpy(s->doc, doc, sizeof doc);
 }
 
 static void again(const struct state *s) {
     used = s->used;
+    memcpy(counts, s->counts, sizeof counts);
     memcpy(doc, s->doc, sizeof doc);
 }
 
-/* Whether the document is that one; and says so. */
+/* Whether the document is that one, and its counts are; and says so. */
 static int is(const struct state *s, const char *which) {
-    int same = used == s->used && memcmp(s->doc, doc, used * sizeof *doc) == 0;
+    int same = used == s->used && memcmp(s->doc, doc, used * sizeof *doc) == 0 && memcmp(s->counts, counts, sizeof counts) == 0;
     printf("document: %s%s, %llu tokens\n", same ? "" : "not ", which, (unsigned long long)used);
     return same;
 }
@@ -153,7 +169,7 @@ static void script(const struct list *l) {
         char said[64];
         size_t edits_here = 0, end = at;
         for (; edits_here < SHRIKE_MOST_EDITS && end < l->n; edits_here++) end += 3 + l->at[end + 2];
-        shrike_listed r = shrike_list(table, SHRIKE_TABLE_WORDS, doc, SHRIKE_MOST_TOKENS, used, l->at + at, end - at);
+        shrike_listed r = shrike_list(table, SHRIKE_TABLE_WORDS, doc, SHRIKE_MOST_TOKENS, used, l->at + at, end - at, counts);
         snprintf(said, sizeof said, "list of %zu edits, %u done", edits_here, (unsigned)r.done);
         done = told(said, r.last);
         at = end;
@@ -212,13 +228,14 @@ int main(int argc, char **argv) {
         return 1;
     }
     used = in.count;
-    shrike_verdict verdict = shrike_check(table, SHRIKE_TABLE_WORDS, doc, SHRIKE_MOST_TOKENS, used);
+    shrike_verdict verdict = shrike_check(table, SHRIKE_TABLE_WORDS, doc, SHRIKE_MOST_TOKENS, used, counts);
     if (verdict.number != SHRIKE_DONE) {
         refused("check", verdict.number, verdict.place);
         printf(", %llu tokens\n", (unsigned long long)used);
         return 1;
     }
-    printf("check: valid, %llu tokens\n", (unsigned long long)used);
+    printf("check: valid, %llu tokens", (unsigned long long)used);
+    panels();
 
     keep(&first);
     number = there_and_back();

@@ -35,10 +35,11 @@ static shrike_count (*const import)(const uint8_t *, size_t, uint8_t *, size_t) 
 static shrike_count (*const list_names)(const uint8_t *, size_t, uint8_t *, size_t) = shrike_names;
 static shrike_spot (*const import_spot)(const uint8_t *, size_t) = shrike_import_spot;
 static uint32_t (*const translate)(const uint8_t *, size_t, uint64_t *, size_t) = shrike_translate;
-static shrike_verdict (*const check)(const uint64_t *, size_t, const uint32_t *, size_t, uint64_t) = shrike_check;
+static shrike_verdict (*const check)(const uint64_t *, size_t, const uint32_t *, size_t, uint64_t, int32_t *) = shrike_check;
 static shrike_answer (*const edit)(const uint64_t *, size_t, uint32_t *, size_t, uint64_t, uint32_t, uint64_t, const uint32_t *, size_t,
-                                   uint32_t *, size_t) = shrike_edit;
-static shrike_listed (*const list)(const uint64_t *, size_t, uint32_t *, size_t, uint64_t, const uint32_t *, size_t) = shrike_list;
+                                   uint32_t *, size_t, int32_t *) = shrike_edit;
+static shrike_listed (*const list)(const uint64_t *, size_t, uint32_t *, size_t, uint64_t, const uint32_t *, size_t, int32_t *) = shrike_list;
+static shrike_count (*const elements)(const uint64_t *, size_t, const int32_t *, uint32_t) = shrike_elements;
 static shrike_compared (*const compare)(const uint64_t *, size_t, const uint64_t *, size_t, uint32_t, uint32_t *, size_t) = shrike_compare;
 
 /* ---- the small shade */
@@ -57,6 +58,14 @@ enum { SCHEMA = sizeof schema, FILE_LENGTH = sizeof file, SHADE = sizeof shade /
 /* A document's buffer: the tokens, and filled behind them. */
 static void fill(uint32_t *doc, const uint32_t *tokens, size_t n) {
     for (size_t i = 0; i < PLACES; i++) doc[i] = i < n ? tokens[i] : FILLED;
+}
+
+/* Counts that no edit here brings to an end of their range. */
+#define COUNTS 48
+static int32_t *hundreds(void) {
+    static int32_t counts[COUNTS];
+    for (size_t i = 0; i < COUNTS; i++) counts[i] = 100;
+    return counts;
 }
 
 /* Linux's numbers. */
@@ -215,17 +224,17 @@ static void checks(void) {
     static const uint32_t two_texts[] = {1, 4, 61, 9, 12, 165, 17, 243, 243, 2, 2, 25, 20, 165, 2, 2};
     fill(doc, shade, SHADE);
     fill(due, shade, SHADE);
-    JUDGED(check(table, TABLE, doc, PLACES, SHADE), 0, 0);
-    JUDGED(check(table, TABLE, doc, SHADE, SHADE), 0, 0);
-    JUDGED(check(table, TABLE, doc, SHADE - 1, SHADE), 4, 0);
-    JUDGED(check(table, TABLE, doc, PLACES, SHADE - 1), 4, 0);
-    JUDGED(check(table, TABLE, doc, PLACES, OVER + SHADE), 4, 0);
-    JUDGED(check(table, TABLE - 1, doc, PLACES, SHADE), 13, 0);
-    JUDGED(check(NULL, 0, doc, PLACES, SHADE), 13, 0);
-    JUDGED(check(table, TABLE, NULL, 0, SHADE), 4, 0);
+    JUDGED(check(table, TABLE, doc, PLACES, SHADE, hundreds()), 0, 0);
+    JUDGED(check(table, TABLE, doc, SHADE, SHADE, hundreds()), 0, 0);
+    JUDGED(check(table, TABLE, doc, SHADE - 1, SHADE, hundreds()), 4, 0);
+    JUDGED(check(table, TABLE, doc, PLACES, SHADE - 1, hundreds()), 4, 0);
+    JUDGED(check(table, TABLE, doc, PLACES, OVER + SHADE, hundreds()), 4, 0);
+    JUDGED(check(table, TABLE - 1, doc, PLACES, SHADE, hundreds()), 13, 0);
+    JUDGED(check(NULL, 0, doc, PLACES, SHADE, hundreds()), 13, 0);
+    JUDGED(check(table, TABLE, NULL, 0, SHADE, hundreds()), 4, 0);
     BYTES(doc, due, sizeof doc);
-    JUDGED(check(table, TABLE, no_text, 14, 14), 0, 0);
-    JUDGED(check(table, TABLE, two_texts, 16, 16), 9, 8);
+    JUDGED(check(table, TABLE, no_text, 14, 14, hundreds()), 0, 0);
+    JUDGED(check(table, TABLE, two_texts, 16, 16, hundreds()), 9, 8);
 }
 
 static void edits(void) {
@@ -235,34 +244,34 @@ static void edits(void) {
     fill(back, NULL, 0);
     fill(back_due, NULL, 0);
     /* refusals: the used length comes back as it was given, and nothing is written */
-    ANSWERED(edit(table, TABLE, doc, PLACES, SHADE, 1, 7, shade + 7, 1, back, PLACES), 9, 8, SHADE, 0, 0);
-    ANSWERED(edit(table, TABLE, doc, PLACES, SHADE, 3, 3, panel, PANEL, back, PLACES), 12, 9, SHADE, 0, 0);
-    ANSWERED(edit(table, TABLE, doc, PLACES, OVER + SHADE, 2, 10, NULL, 0, back, PLACES), 4, 0, OVER + SHADE, 0, 0);
-    ANSWERED(edit(table, TABLE, doc, PLACES, UINT64_MAX, 2, 10, NULL, 0, back, PLACES), 4, 0, UINT64_MAX, 0, 0);
-    ANSWERED(edit(table, TABLE, doc, PLACES, SHADE, 2, OVER + 10, NULL, 0, back, PLACES), 6, 0, SHADE, 0, 0);
-    ANSWERED(edit(table, TABLE, doc, PLACES, SHADE, UINT32_MAX, 10, NULL, 0, back, PLACES), 6, 0, SHADE, 0, 0);
-    ANSWERED(edit(table, TABLE, doc, PLACES, SHADE, 65536 + 2, 10, NULL, 0, back, PLACES), 6, 0, SHADE, 0, 0);
-    ANSWERED(edit(table, TABLE, doc, PLACES, SHADE, 1, 10, panel, PANEL - 1, back, PLACES), 4, 0, SHADE, 0, 0);
-    ANSWERED(edit(table, TABLE, doc, SHADE + PANEL - 1, SHADE, 1, 10, panel, PANEL, back, PLACES), 5, 0, SHADE, 0, 0);
-    ANSWERED(edit(table, TABLE, doc, SHADE - 1, SHADE, 2, 10, NULL, 0, back, PLACES), 4, 0, SHADE, 0, 0);
-    ANSWERED(edit(table, TABLE - 1, doc, PLACES, OVER + 1, 2, 10, NULL, 0, back, PLACES), 13, 0, OVER + 1, 0, 0);
-    ANSWERED(edit(NULL, 0, NULL, 0, OVER, 0, 0, NULL, 0, NULL, 0), 13, 0, OVER, 0, 0);
+    ANSWERED(edit(table, TABLE, doc, PLACES, SHADE, 1, 7, shade + 7, 1, back, PLACES, hundreds()), 9, 8, SHADE, 0, 0);
+    ANSWERED(edit(table, TABLE, doc, PLACES, SHADE, 3, 3, panel, PANEL, back, PLACES, hundreds()), 12, 9, SHADE, 0, 0);
+    ANSWERED(edit(table, TABLE, doc, PLACES, OVER + SHADE, 2, 10, NULL, 0, back, PLACES, hundreds()), 4, 0, OVER + SHADE, 0, 0);
+    ANSWERED(edit(table, TABLE, doc, PLACES, UINT64_MAX, 2, 10, NULL, 0, back, PLACES, hundreds()), 4, 0, UINT64_MAX, 0, 0);
+    ANSWERED(edit(table, TABLE, doc, PLACES, SHADE, 2, OVER + 10, NULL, 0, back, PLACES, hundreds()), 6, 0, SHADE, 0, 0);
+    ANSWERED(edit(table, TABLE, doc, PLACES, SHADE, UINT32_MAX, 10, NULL, 0, back, PLACES, hundreds()), 6, 0, SHADE, 0, 0);
+    ANSWERED(edit(table, TABLE, doc, PLACES, SHADE, 65536 + 2, 10, NULL, 0, back, PLACES, hundreds()), 6, 0, SHADE, 0, 0);
+    ANSWERED(edit(table, TABLE, doc, PLACES, SHADE, 1, 10, panel, PANEL - 1, back, PLACES, hundreds()), 4, 0, SHADE, 0, 0);
+    ANSWERED(edit(table, TABLE, doc, SHADE + PANEL - 1, SHADE, 1, 10, panel, PANEL, back, PLACES, hundreds()), 5, 0, SHADE, 0, 0);
+    ANSWERED(edit(table, TABLE, doc, SHADE - 1, SHADE, 2, 10, NULL, 0, back, PLACES, hundreds()), 4, 0, SHADE, 0, 0);
+    ANSWERED(edit(table, TABLE - 1, doc, PLACES, OVER + 1, 2, 10, NULL, 0, back, PLACES, hundreds()), 13, 0, OVER + 1, 0, 0);
+    ANSWERED(edit(NULL, 0, NULL, 0, OVER, 0, 0, NULL, 0, NULL, 0, hundreds()), 13, 0, OVER, 0, 0);
     /* the second buffer: after the place, and before the document is judged */
-    ANSWERED(edit(table, TABLE, doc, PLACES, SHADE, 2, SHADE, NULL, 0, NULL, 0), 6, 0, SHADE, 0, 0);
-    ANSWERED(edit(table, TABLE, doc, PLACES, SHADE, 2, 3, NULL, 0, NULL, 0), 5, 0, SHADE, 0, 0);
-    ANSWERED(edit(table, TABLE, doc, PLACES, SHADE, 2, 3, NULL, 0, back, 9), 5, 0, SHADE, 0, 0);
-    ANSWERED(edit(table, TABLE, doc, PLACES, SHADE, 2, 3, NULL, 0, back, 10), 9, 3, SHADE, 0, 0);
+    ANSWERED(edit(table, TABLE, doc, PLACES, SHADE, 2, SHADE, NULL, 0, NULL, 0, hundreds()), 6, 0, SHADE, 0, 0);
+    ANSWERED(edit(table, TABLE, doc, PLACES, SHADE, 2, 3, NULL, 0, NULL, 0, hundreds()), 5, 0, SHADE, 0, 0);
+    ANSWERED(edit(table, TABLE, doc, PLACES, SHADE, 2, 3, NULL, 0, back, 9, hundreds()), 5, 0, SHADE, 0, 0);
+    ANSWERED(edit(table, TABLE, doc, PLACES, SHADE, 2, 3, NULL, 0, back, 10, hundreds()), 9, 3, SHADE, 0, 0);
     BYTES(doc, due, sizeof doc);
     BYTES(back, back_due, sizeof back);
     /* done: tokens come, and tokens go */
     static const uint32_t longer[] = {1, 4, 61, 9, 12, 165, 17, 243, 2, 2, 9, 12, 173, 2, 25, 20, 165, 2, 2};
     static const uint32_t shorter[] = {1, 4, 61, 9, 12, 165, 17, 243, 2, 2, 2, 0, 0, 0, 0};
     fill(due, longer, SHADE + PANEL);
-    ANSWERED(edit(table, TABLE, doc, SHADE + PANEL, SHADE, 1, 10, panel, PANEL, back, PLACES), 0, 0, SHADE + PANEL, PANEL, 3);
+    ANSWERED(edit(table, TABLE, doc, SHADE + PANEL, SHADE, 1, 10, panel, PANEL, back, PLACES, hundreds()), 0, 0, SHADE + PANEL, PANEL, 3);
     BYTES(doc, due, sizeof doc);
     fill(doc, shade, SHADE);
     fill(due, shorter, SHADE);
-    ANSWERED(edit(table, TABLE, doc, PLACES, SHADE, 2, 10, NULL, 0, back, PLACES), 0, 0, 11, -4, 1);
+    ANSWERED(edit(table, TABLE, doc, PLACES, SHADE, 2, 10, NULL, 0, back, PLACES, hundreds()), 0, 0, 11, -4, 1);
     BYTES(doc, due, sizeof doc);
     BYTES(table, before, sizeof table);
 }
@@ -272,11 +281,11 @@ static void children(void) {
     uint32_t doc[PLACES], back[PLACES];
     static const uint32_t rows[] = {9, 12, 165, 17, 243, 2, 17, 251, 2, 2}, title[] = {4, 69}, label[] = {12, 165};
     fill(doc, shade, SHADE);
-    ANSWERED(edit(table, TABLE, doc, PLACES, SHADE, 3, 3, rows, 10, back, PLACES), 0, 0, SHADE + 3, 3, 2 + 2 + 1 + 1);
-    ANSWERED(edit(table, TABLE, doc, PLACES, SHADE + 3, 3, 0, shade, SHADE, back, PLACES), 0, 0, SHADE, -3, 2 + 1 + 1);
-    ANSWERED(edit(table, TABLE, doc, PLACES, SHADE, 3, 7, rows + 7, 1, back, PLACES), 0, 0, SHADE, 0, 1);
-    ANSWERED(edit(table, TABLE, doc, PLACES, SHADE, 4, 0, title, 2, back, PLACES), 0, 0, SHADE, 0, 2);
-    ANSWERED(edit(table, TABLE, doc, PLACES, SHADE, 4, 3, label, 2, back, PLACES), 0, 0, SHADE, 0, 1);
+    ANSWERED(edit(table, TABLE, doc, PLACES, SHADE, 3, 3, rows, 10, back, PLACES, hundreds()), 0, 0, SHADE + 3, 3, 2 + 2 + 1 + 1);
+    ANSWERED(edit(table, TABLE, doc, PLACES, SHADE + 3, 3, 0, shade, SHADE, back, PLACES, hundreds()), 0, 0, SHADE, -3, 2 + 1 + 1);
+    ANSWERED(edit(table, TABLE, doc, PLACES, SHADE, 3, 7, rows + 7, 1, back, PLACES, hundreds()), 0, 0, SHADE, 0, 1);
+    ANSWERED(edit(table, TABLE, doc, PLACES, SHADE, 4, 0, title, 2, back, PLACES, hundreds()), 0, 0, SHADE, 0, 2);
+    ANSWERED(edit(table, TABLE, doc, PLACES, SHADE, 4, 3, label, 2, back, PLACES, hundreds()), 0, 0, SHADE, 0, 1);
 }
 
 /* ---- steps back: element 0 has any number of elements 1, and attributes 0 and 1 that may be absent, 1 of IDREFS; element 1 has an ID */
@@ -295,14 +304,14 @@ static void taken_back(int line, uint32_t operation, uint64_t place, const uint3
     fill(back, NULL, 0);
     fill(other, NULL, 0);
     for (size_t less = 0; less < room; less++)
-        answered(line, edit(free_table, TABLE, doc, PLACES, FREE, operation, place, piece, n, back, less), 5, 0, FREE, 0, 0);
+        answered(line, edit(free_table, TABLE, doc, PLACES, FREE, operation, place, piece, n, back, less, hundreds()), 5, 0, FREE, 0, 0);
     bytes_same(line, doc, due, sizeof doc);
     bytes_same(line, back, other, sizeof back);
-    shrike_answer there = edit(free_table, TABLE, doc, PLACES, FREE, operation, place, piece, n, back, room);
+    shrike_answer there = edit(free_table, TABLE, doc, PLACES, FREE, operation, place, piece, n, back, room, hundreds());
     same(line, "number", there.number, 0);
     fill(due, inverse, room);
     bytes_same(line, back, due, sizeof back);
-    shrike_answer again = edit(free_table, TABLE, doc, PLACES, there.used, back[0], back[1], back + 3, back[2], other, 3 + n);
+    shrike_answer again = edit(free_table, TABLE, doc, PLACES, there.used, back[0], back[1], back + 3, back[2], other, 3 + n, hundreds());
     same(line, "number", again.number, 0);
     same(line, "used", again.used, FREE);
     same(line, "change", (uint64_t)(int64_t)again.change, (uint64_t)-(int64_t)there.change);
@@ -321,7 +330,7 @@ static void steps_back(void) {
     static const uint32_t to_replace_all[] = {3, 0, FREE, 1, 12, 165, 173, 9, 20, 165, 2, 9, 20, 173, 2, 9, 20, 189, 2, 2};
     static const uint32_t to_add[] = {5, 0, 1, 4}, to_set[] = {4, 0, 3, 12, 165, 173};
     SAME("number", translate(free_schema, sizeof free_schema, free_table, TABLE), 0);
-    JUDGED(check(free_table, TABLE, free_doc, FREE, FREE), 0, 0);
+    JUDGED(check(free_table, TABLE, free_doc, FREE, FREE, hundreds()), 0, 0);
     TAKEN_BACK(1, 4, child, 4, to_insert);
     TAKEN_BACK(2, 12, NULL, 0, to_remove);
     TAKEN_BACK(3, 12, child, 4, to_replace);
@@ -346,47 +355,147 @@ static void lists(void) {
     /* the list itself is refused: nothing is written, and the used length comes back as it was given */
     fill(doc, shade, SHADE);
     fill(due, shade, SHADE);
-    LISTED(list(table, TABLE, doc, PLACES, SHADE, NULL, 0), 4, 0, SHADE, 0, 0, 0);
+    LISTED(list(table, TABLE, doc, PLACES, SHADE, NULL, 0, hundreds()), 4, 0, SHADE, 0, 0, 0);
     for (size_t n = 1; n < STEP; n++)
-        if (n != FIRST_EDIT && n != TWO_EDITS) LISTED(list(table, TABLE, doc, PLACES, SHADE, step, n), 4, 0, SHADE, 0, 0, 0);
+        if (n != FIRST_EDIT && n != TWO_EDITS) LISTED(list(table, TABLE, doc, PLACES, SHADE, step, n, hundreds()), 4, 0, SHADE, 0, 0, 0);
     for (size_t i = 0; i <= MOST; i++) memcpy(many + NUMBERS * i, title, sizeof title);
     for (size_t n = NUMBERS * MOST + 1; n <= NUMBERS * (MOST + 1); n++)
-        LISTED(list(table, TABLE, doc, PLACES, SHADE, many, n), 5, 0, SHADE, 0, 0, 0);
-    LISTED(list(NULL, 0, NULL, 0, UINT64_MAX, NULL, 0), 4, 0, UINT64_MAX, 0, 0, 0);
-    LISTED(list(NULL, 0, NULL, 0, OVER, many, NUMBERS * MOST + 1), 5, 0, OVER, 0, 0, 0);
+        LISTED(list(table, TABLE, doc, PLACES, SHADE, many, n, hundreds()), 5, 0, SHADE, 0, 0, 0);
+    LISTED(list(NULL, 0, NULL, 0, UINT64_MAX, NULL, 0, hundreds()), 4, 0, UINT64_MAX, 0, 0, 0);
+    LISTED(list(NULL, 0, NULL, 0, OVER, many, NUMBERS * MOST + 1, hundreds()), 5, 0, OVER, 0, 0, 0);
     /* table, shape, and an edit that is refused first */
-    LISTED(list(table, TABLE - 1, doc, PLACES, OVER + 1, step, STEP), 13, 0, OVER + 1, 0, 0, 0);
-    LISTED(list(table, TABLE, doc, SHADE - 1, SHADE, step, STEP), 4, 0, SHADE, 0, 0, 0);
-    LISTED(list(table, TABLE, doc, PLACES, OVER + SHADE, step, STEP), 4, 0, OVER + SHADE, 0, 0, 0);
-    LISTED(list(table, TABLE, doc, PLACES, SHADE, step + TWO_EDITS, 3), 9, 3, SHADE, 0, 0, 0);
-    LISTED(list(table, TABLE, doc, SHADE + PANEL - 1, SHADE, step, STEP), 5, 0, SHADE, 0, 0, 0);
+    LISTED(list(table, TABLE - 1, doc, PLACES, OVER + 1, step, STEP, hundreds()), 13, 0, OVER + 1, 0, 0, 0);
+    LISTED(list(table, TABLE, doc, SHADE - 1, SHADE, step, STEP, hundreds()), 4, 0, SHADE, 0, 0, 0);
+    LISTED(list(table, TABLE, doc, PLACES, OVER + SHADE, step, STEP, hundreds()), 4, 0, OVER + SHADE, 0, 0, 0);
+    LISTED(list(table, TABLE, doc, PLACES, SHADE, step + TWO_EDITS, 3, hundreds()), 9, 3, SHADE, 0, 0, 0);
+    LISTED(list(table, TABLE, doc, SHADE + PANEL - 1, SHADE, step, STEP, hundreds()), 5, 0, SHADE, 0, 0, 0);
     BYTES(doc, due, sizeof doc);
     /* done: one, two and three of the edits, and zeros up to the longest */
     fill(due, inserted, SHADE + PANEL);
-    LISTED(list(table, TABLE, doc, SHADE + PANEL, SHADE, step, FIRST_EDIT), 0, 0, SHADE + PANEL, PANEL, 3, 1);
+    LISTED(list(table, TABLE, doc, SHADE + PANEL, SHADE, step, FIRST_EDIT, hundreds()), 0, 0, SHADE + PANEL, PANEL, 3, 1);
     BYTES(doc, due, sizeof doc);
     fill(doc, shade, SHADE);
-    LISTED(list(table, TABLE, doc, PLACES, SHADE, step, TWO_EDITS), 0, 0, SHADE, -4, 2, 2);
+    LISTED(list(table, TABLE, doc, PLACES, SHADE, step, TWO_EDITS, hundreds()), 0, 0, SHADE, -4, 2, 2);
     fill(doc, shade, SHADE);
     fill(due, left, SHADE + PANEL);
-    LISTED(list(table, TABLE, doc, PLACES, SHADE, step, STEP), 0, 0, 8, -7, 1, 3);
+    LISTED(list(table, TABLE, doc, PLACES, SHADE, step, STEP, hundreds()), 0, 0, 8, -7, 1, 3);
     BYTES(doc, due, sizeof doc);
     /* a fourth that is refused: the three stand */
     memcpy(more, step, sizeof step);
     memcpy(more + STEP, step + TWO_EDITS, 3 * sizeof *step);
     fill(doc, shade, SHADE);
-    LISTED(list(table, TABLE, doc, PLACES, SHADE, more, STEP + 3), 9, 3, 8, 0, 0, 3);
+    LISTED(list(table, TABLE, doc, PLACES, SHADE, more, STEP + 3, hundreds()), 9, 3, 8, 0, 0, 3);
     BYTES(doc, due, sizeof doc);
     /* as many as there may be; a piece over 8,192 tokens */
     fill(doc, shade, SHADE);
     fill(due, shade, SHADE);
     due[2] = 69;
-    LISTED(list(table, TABLE, doc, PLACES, SHADE, many, NUMBERS * MOST), 0, 0, SHADE, 0, 2, MOST);
+    LISTED(list(table, TABLE, doc, PLACES, SHADE, many, NUMBERS * MOST, hundreds()), 0, 0, SHADE, 0, 2, MOST);
     BYTES(doc, due, sizeof doc);
     long_piece[0] = 1, long_piece[1] = 7, long_piece[2] = 8193;
     for (size_t i = 3; i < sizeof long_piece / sizeof *long_piece; i++) long_piece[i] = 243;
-    LISTED(list(table, TABLE, doc, PLACES, SHADE, long_piece, sizeof long_piece / sizeof *long_piece), 4, 0, SHADE, 0, 0, 0);
+    LISTED(list(table, TABLE, doc, PLACES, SHADE, long_piece, sizeof long_piece / sizeof *long_piece, hundreds()), 4, 0, SHADE, 0, 0, 0);
     BYTES(doc, due, sizeof doc);
+    BYTES(table, before, sizeof table);
+}
+
+/* ---- counts: those of the shade, and numbers that are not true */
+
+/* The first four counts are these, and the others are all alike. */
+static void counts_are(int line, const int32_t *counts, int32_t a, int32_t b, int32_t c, int32_t d, int32_t rest) {
+    const int32_t due[] = {a, b, c, d};
+    bytes_same(line, counts, due, sizeof due);
+    for (size_t i = 4; i < COUNTS; i++) same(line, "count", (uint64_t)(int64_t)counts[i], (uint64_t)(int64_t)rest);
+}
+#define COUNTS_ARE(counts, a, b, c, d, rest) counts_are(__LINE__, counts, a, b, c, d, rest)
+
+/* An edit and a list of it, with one count that is any number: refused, and nothing is written; or done. */
+static void with_count(int line, uint32_t at, int32_t count, uint32_t operation, uint64_t place, const uint32_t *piece, size_t n,
+                       uint32_t number) {
+    uint32_t doc[PLACES], due[PLACES], back[PLACES], back_due[PLACES], one[PLACES];
+    int32_t counts[COUNTS], kept[COUNTS];
+    one[0] = operation, one[1] = (uint32_t)place, one[2] = (uint32_t)n;
+    for (size_t i = 0; i < n; i++) one[3 + i] = piece[i];
+    for (int as_list = 0; as_list < 2; as_list++) {
+        fill(doc, shade, SHADE);
+        fill(due, shade, SHADE);
+        fill(back, NULL, 0);
+        fill(back_due, NULL, 0);
+        for (size_t i = 0; i < COUNTS; i++) kept[i] = counts[i] = i == at ? count : 100;
+        shrike_answer r = as_list ? list(table, TABLE, doc, PLACES, SHADE, one, 3 + n, counts).last
+                                  : edit(table, TABLE, doc, PLACES, SHADE, operation, place, piece, n, back, PLACES, counts);
+        same(line, "number", r.number, number);
+        same(line, "place", r.place, 0);
+        if (number == 0) continue;
+        same(line, "used", r.used, SHADE);
+        bytes_same(line, doc, due, sizeof doc);
+        bytes_same(line, back, back_due, sizeof back);
+        bytes_same(line, counts, kept, sizeof counts);
+    }
+}
+#define WITH_COUNT(at, count, operation, place, piece, n, number) with_count(__LINE__, at, count, operation, place, piece, n, number)
+
+static void counts(void) {
+    uint32_t doc[PLACES], back[PLACES];
+    int32_t kept[COUNTS];
+    static const uint32_t title[] = {4, 69};
+    /* a check that says valid writes them; another leaves them */
+    for (size_t i = 0; i < COUNTS; i++) kept[i] = -7;
+    fill(doc, shade, SHADE);
+    JUDGED(check(table, TABLE, doc, PLACES, SHADE - 1, kept), 4, 0);
+    JUDGED(check(table, TABLE - 1, doc, PLACES, SHADE, kept), 13, 0);
+    COUNTS_ARE(kept, -7, -7, -7, -7, -7);
+    JUDGED(check(table, TABLE, doc, PLACES, SHADE, kept), 0, 0);
+    COUNTS_ARE(kept, 1, 1, 1, 1, 0);
+    /* edits carry them along: a panel comes, a refused one leaves them, a root with two panels of two rows comes and goes */
+    static const uint32_t root[] = {1, 4, 61, 9, 12, 165, 17, 2, 17, 2, 2, 9, 12, 173, 17, 2, 17, 2, 2, 2};
+    ANSWERED(edit(table, TABLE, doc, PLACES, SHADE, 1, 10, panel, PANEL, back, PLACES, kept), 0, 0, SHADE + PANEL, PANEL, 3);
+    COUNTS_ARE(kept, 1, 2, 1, 1, 0);
+    ANSWERED(edit(table, TABLE, doc, PLACES, SHADE + PANEL, 1, 10, panel, PANEL, back, PLACES, kept), 11, 16, SHADE + PANEL, 0, 0);
+    COUNTS_ARE(kept, 1, 2, 1, 1, 0);
+    ANSWERED(edit(table, TABLE, doc, PLACES, SHADE + PANEL, 3, 0, root, 20, back, PLACES, kept), 0, 0, 20, 1, 6);
+    COUNTS_ARE(kept, 1, 2, 4, 0, 0);
+    ANSWERED(edit(table, TABLE, doc, PLACES, 20, back[0], back[1], back + 3, back[2], doc + 20, PLACES - 20, kept), 5, 0, 20, 0, 0);
+    COUNTS_ARE(kept, 1, 2, 4, 0, 0);
+    /* lists too, as far as they go: the second panel again, the use, the first panel with its row, and one that is refused */
+    const uint32_t refused[] = {1, 10, 4, 9, 12, 173, 2, 2, 14, 0, 2, 3, 0, 2, 3, 0};
+    fill(doc, shade, SHADE);
+    JUDGED(check(table, TABLE, doc, PLACES, SHADE, kept), 0, 0);
+    LISTED(list(table, TABLE, doc, PLACES, SHADE, refused, 16, kept), 9, 3, 8, 0, 0, 3);
+    COUNTS_ARE(kept, 1, 1, 0, 0, 0);
+    LISTED(list(table, TABLE, doc, PLACES, 8, refused, 15, kept), 4, 0, 8, 0, 0, 0);
+    COUNTS_ARE(kept, 1, 1, 0, 0, 0);
+    /* any numbers: 15 behind 5 and before the judgement; sums are exact */
+    WITH_COUNT(1, 8191, 1, 10, panel, PANEL, 0);
+    WITH_COUNT(1, 8192, 1, 10, panel, PANEL, 15);
+    WITH_COUNT(1, -1, 1, 10, panel, PANEL, 0);
+    WITH_COUNT(1, -2, 1, 10, panel, PANEL, 15);
+    WITH_COUNT(1, INT32_MAX, 1, 10, panel, PANEL, 15);
+    WITH_COUNT(3, 1, 2, 10, NULL, 0, 0);
+    WITH_COUNT(3, 0, 2, 10, NULL, 0, 15);
+    WITH_COUNT(3, 8193, 2, 10, NULL, 0, 0);
+    WITH_COUNT(3, INT32_MIN, 2, 10, NULL, 0, 15);
+    WITH_COUNT(47, 8192, 4, 0, title, 2, 0);
+    WITH_COUNT(47, 8193, 4, 0, title, 2, 15);
+    WITH_COUNT(47, -1, 4, 0, title, 2, 15);
+    WITH_COUNT(47, -1, 2, 3, NULL, 0, 15);
+    WITH_COUNT(47, -1, 2, SHADE, NULL, 0, 6);
+    /* the question: 13, 15, and 0 for a name that the schema does not have */
+    for (int32_t i = 0; i < COUNTS; i++) kept[i] = i + 1;
+    COUNTED(elements(table, TABLE, kept, 0), 0, 1);
+    COUNTED(elements(table, TABLE, kept, 3), 0, 4);
+    COUNTED(elements(table, TABLE, kept, 4), 0, 0);
+    COUNTED(elements(table, TABLE, kept, 47), 0, 0);
+    COUNTED(elements(table, TABLE, kept, UINT32_MAX), 0, 0);
+    kept[1] = 8192;
+    COUNTED(elements(table, TABLE, kept, 1), 0, 8192);
+    kept[47] = 8193;
+    COUNTED(elements(table, TABLE, kept, 1), 15, 0);
+    COUNTED(elements(table, TABLE, kept, 99), 15, 0);
+    COUNTED(elements(table, TABLE - 1, kept, 1), 13, 0);
+    COUNTED(elements(NULL, 0, kept, 1), 13, 0);
+    kept[47] = -1;
+    COUNTED(elements(table, TABLE, kept, 1), 15, 0);
     BYTES(table, before, sizeof table);
 }
 
@@ -460,24 +569,24 @@ static int lengths(void) {
     COUNTED(list_names(bytes, OVER, bytes + LIST, 0), 14, 0);
     SPOTTED(import_spot(bytes, OVER), 14, 0);
     SAME("number", translate(schema, SCHEMA, (uint64_t *)words, OVER + TABLE), 13);
-    JUDGED(check(table, TABLE, tokens, OVER, SHADE), 0, 0);
-    JUDGED(check(words, OVER + TABLE, tokens, OVER, SHADE), 13, 0);
-    ANSWERED(edit(table, TABLE, tokens, OVER, SHADE, 2, 10, NULL, 0, back, OVER), 0, 0, 11, -4, 1);
+    JUDGED(check(table, TABLE, tokens, OVER, SHADE, hundreds()), 0, 0);
+    JUDGED(check(words, OVER + TABLE, tokens, OVER, SHADE, hundreds()), 13, 0);
+    ANSWERED(edit(table, TABLE, tokens, OVER, SHADE, 2, 10, NULL, 0, back, OVER, hundreds()), 0, 0, 11, -4, 1);
     SAME("operation", back[0], 1);
     BYTES(back + 3, shade + 10, back[2] * sizeof *back);
-    ANSWERED(edit(words, OVER + TABLE, tokens, OVER, 11, 2, 10, NULL, 0, back, OVER), 13, 0, 11, 0, 0);
+    ANSWERED(edit(words, OVER + TABLE, tokens, OVER, 11, 2, 10, NULL, 0, back, OVER, hundreds()), 13, 0, 11, 0, 0);
     COMPARED(compare(words, OVER + TABLE, table, TABLE, 0, tokens, OVER), 13, 0, 0);
     COMPARED(compare(table, TABLE, words, OVER + TABLE, 0, tokens, OVER), 13, 0, 0);
     COMPARED(compare(table, TABLE, new_table, TABLE, 0, tokens, OVER), 0, 0, 1);
     uint32_t doc[PLACES];
     fill(doc, shade, SHADE);
     tokens[0] = 9;
-    ANSWERED(edit(table, TABLE, doc, PLACES, SHADE, 2, 10, tokens, OVER, back, OVER), 4, 0, SHADE, 0, 0);
+    ANSWERED(edit(table, TABLE, doc, PLACES, SHADE, 2, 10, tokens, OVER, back, OVER, hundreds()), 4, 0, SHADE, 0, 0);
     memcpy(tokens, no_operations, sizeof no_operations);
-    LISTED(list(table, TABLE, doc, PLACES, SHADE, tokens, OVER), 5, 0, SHADE, 0, 0, 0);
+    LISTED(list(table, TABLE, doc, PLACES, SHADE, tokens, OVER, hundreds()), 5, 0, SHADE, 0, 0, 0);
     memcpy(tokens, shade, sizeof shade);
-    LISTED(list(table, TABLE, tokens, OVER, SHADE, step, STEP), 0, 0, 8, -7, 1, 3);
-    LISTED(list(words, OVER + TABLE, tokens, OVER, 8, step, STEP), 13, 0, 8, 0, 0, 0);
+    LISTED(list(table, TABLE, tokens, OVER, SHADE, step, STEP, hundreds()), 0, 0, 8, -7, 1, 3);
+    LISTED(list(words, OVER + TABLE, tokens, OVER, 8, step, STEP, hundreds()), 13, 0, 8, 0, 0, 0);
     return 1;
 }
 
@@ -491,6 +600,7 @@ int main(void) {
     children();
     steps_back();
     lists();
+    counts();
     comparisons();
     if (!lengths()) return 1;
     return told();

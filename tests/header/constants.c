@@ -20,8 +20,18 @@ static uint32_t schema(const uint32_t *given, size_t n) {
     return written.number != SHRIKE_DONE ? written.number : shrike_translate(file, written.count, table, SHRIKE_TABLE_WORDS);
 }
 
+/* Counts that no edit here brings to an end of their range, and one place more. */
+static int32_t counts[SHRIKE_COUNT_PLACES + 1];
+
+static int32_t *hundreds(void) {
+    for (size_t i = 0; i < LENGTH(counts); i++) counts[i] = 100;
+    return counts;
+}
+
 /* The verdict on a document, by the last table. */
-static shrike_verdict checked(const uint32_t *doc, size_t used) { return shrike_check(table, SHRIKE_TABLE_WORDS, doc, used, used); }
+static shrike_verdict checked(const uint32_t *doc, size_t used) {
+    return shrike_check(table, SHRIKE_TABLE_WORDS, doc, used, used, hundreds());
+}
 
 #define SCHEMA(answer, ...)                                         \
     do {                                                            \
@@ -53,7 +63,7 @@ static void words(void) {
     static const uint32_t answers[] = {SHRIKE_DONE,  SHRIKE_BROKEN,     SHRIKE_SCHEMA,  SHRIKE_AMBIGUOUS, SHRIKE_SHAPE,
                                        SHRIKE_ROOM,  SHRIKE_PLACE,      SHRIKE_NAME,    SHRIKE_ATTRIBUTES, SHRIKE_CONTENT,
                                        SHRIKE_ROOT,  SHRIKE_ID_TWICE,   SHRIKE_NO_ID,   SHRIKE_TABLE,     SHRIKE_DTD_TEXT,
-                                       SHRIKE_NOT_COMPARED, UINT32_MAX};
+                                       SHRIKE_COUNTS, SHRIKE_NOT_COMPARED, UINT32_MAX};
     for (size_t i = 0; i < LENGTH(answers); i++)
         for (size_t j = 0; j < i; j++) SAME("words alike", strcmp(shrike_words(answers[i]), shrike_words(answers[j])) == 0, 0);
 }
@@ -246,7 +256,7 @@ static shrike_answer edited(const uint32_t *doc, uint32_t operation, uint64_t pl
     begin();
     for (size_t i = 0; i < LENGTH(shade); i++) put(doc[i], 1);
     return shrike_edit(table, SHRIKE_TABLE_WORDS, numbers, SHRIKE_MOST_TOKENS, LENGTH(shade), operation, place, piece, n, back,
-                       SHRIKE_MOST_BACK);
+                       SHRIKE_MOST_BACK, hundreds());
 }
 
 static void operations(void) {
@@ -275,14 +285,17 @@ static void operations(void) {
     static const uint32_t unnamed[] = {S(0), A(0), V(7), S(4), A(1), V(20), S(2), T(30), E, E, S(3), A(2), V(20), E, E};
     ANSWERED(edited(unnamed, SHRIKE_REMOVE, 6, NULL, 0), SHRIKE_NAME, 3, LENGTH_NOW, 0, 0);
     DOCUMENT(SHRIKE_ROOT, 0, S(1), A(1), V(20), E);
-    JUDGED(shrike_check(table, SHRIKE_TABLE_WORDS - 1, shade, LENGTH_NOW, LENGTH_NOW), SHRIKE_TABLE, 0);
+    JUDGED(shrike_check(table, SHRIKE_TABLE_WORDS - 1, shade, LENGTH_NOW, LENGTH_NOW, hundreds()), SHRIKE_TABLE, 0);
 }
+
+/* The counts of the last document that was checked. */
+static int32_t *true_counts(void) { return counts; }
 
 /* The longest step back: from a root that takes the place of as many tokens as a document can have. */
 static shrike_answer all_replaced(size_t back_room) {
     const uint32_t root[] = {S(0), E};
     nested(1, SHRIKE_MOST_TOKENS / 2 - 1);
-    return shrike_edit(table, SHRIKE_TABLE_WORDS, numbers, made, made, SHRIKE_REPLACE, 0, root, 2, back, back_room);
+    return shrike_edit(table, SHRIKE_TABLE_WORDS, numbers, made, made, SHRIKE_REPLACE, 0, root, 2, back, back_room, true_counts());
 }
 
 static void steps_back(void) {
@@ -301,13 +314,28 @@ static shrike_listed titles(size_t edits) {
         put(SHRIKE_SET, 1), put(0, 1), put(LENGTH(title), 1);
         for (size_t j = 0; j < LENGTH(title); j++) put(title[j], 1);
     }
-    return shrike_list(table, SHRIKE_TABLE_WORDS, doc, LENGTH(doc), LENGTH(doc), numbers, made);
+    return shrike_list(table, SHRIKE_TABLE_WORDS, doc, LENGTH(doc), LENGTH(doc), numbers, made, hundreds());
 }
 
 static void lists(void) {
     LISTED(titles(SHRIKE_MOST_EDITS), SHRIKE_DONE, 0, LENGTH(shade), 0, 2, SHRIKE_MOST_EDITS);
     LISTED(titles(SHRIKE_MOST_EDITS + 1), SHRIKE_ROOM, 0, LENGTH(shade), 0, 0, 0);
     LISTED(titles(0), SHRIKE_SHAPE, 0, LENGTH(shade), 0, 0, 0);
+}
+
+/* A check writes as many counts as there are, and no more; the last one is asked for. */
+static void kept_counts(void) {
+    const uint32_t last = SHRIKE_COUNT_PLACES - 1;
+    begin(), put(SHRIKE_COUNT_PLACES, 1), put(last, 1);
+    for (uint32_t i = 0; i <= last; i++) put(SHRIKE_EMPTY, 1), put(0, 1);
+    SAME("as many elements as counts", schema(numbers, made), SHRIKE_DONE);
+    DOCUMENT(SHRIKE_DONE, 0, S(last), E);
+    for (uint32_t i = 0; i < last; i++) SAME("count", (uint64_t)counts[i], 0);
+    SAME("last count", (uint64_t)counts[last], 1);
+    SAME("behind the counts", (uint64_t)counts[SHRIKE_COUNT_PLACES], 100);
+    COUNTED(shrike_elements(table, SHRIKE_TABLE_WORDS, counts, last), SHRIKE_DONE, 1);
+    counts[last] = -1;
+    COUNTED(shrike_elements(table, SHRIKE_TABLE_WORDS, counts, 0), SHRIKE_COUNTS, 0);
 }
 
 /* The answers that nothing above has. */
@@ -391,6 +419,7 @@ int main(void) {
     tables();
     operations();
     lists();
+    kept_counts();
     steps_back();
     answers();
     texts();

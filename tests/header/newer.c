@@ -44,21 +44,28 @@ uint32_t shrike_translate(const uint8_t *file, size_t file_len, uint64_t *table,
     return (void)file, (void)file_len, (void)table, (void)words, answer("translate");
 }
 
-shrike_verdict shrike_check(const uint64_t *table, size_t words, const uint32_t *doc, size_t room, uint64_t used) {
+shrike_verdict shrike_check(const uint64_t *table, size_t words, const uint32_t *doc, size_t room, uint64_t used, int32_t *counts) {
     shrike_verdict r = {answer("check"), 0};
-    return (void)table, (void)words, (void)doc, (void)room, (void)used, r;
+    return (void)table, (void)words, (void)doc, (void)room, (void)used, (void)counts, r;
 }
 
 shrike_answer shrike_edit(const uint64_t *table, size_t words, uint32_t *doc, size_t room, uint64_t used, uint32_t operation,
-                          uint64_t place, const uint32_t *piece, size_t n, uint32_t *back, size_t back_room) {
+                          uint64_t place, const uint32_t *piece, size_t n, uint32_t *back, size_t back_room, int32_t *counts) {
     shrike_answer r = {answer("edit"), 0, used, 0, 0};
     (void)table, (void)words, (void)doc, (void)room, (void)operation, (void)place, (void)piece, (void)n, (void)back, (void)back_room;
+    (void)counts;
     return r;
 }
 
-shrike_listed shrike_list(const uint64_t *table, size_t words, uint32_t *doc, size_t room, uint64_t used, const uint32_t *list, size_t n) {
+shrike_listed shrike_list(const uint64_t *table, size_t words, uint32_t *doc, size_t room, uint64_t used, const uint32_t *list, size_t n,
+                          int32_t *counts) {
     shrike_listed r = {{answer("list"), 0, used, 0, 0}, 0};
-    return (void)table, (void)words, (void)doc, (void)room, (void)list, (void)n, r;
+    return (void)table, (void)words, (void)doc, (void)room, (void)list, (void)n, (void)counts, r;
+}
+
+shrike_count shrike_elements(const uint64_t *table, size_t words, const int32_t *counts, uint32_t name) {
+    shrike_count r = {answer("elements"), 0};
+    return (void)table, (void)words, (void)counts, (void)name, r;
 }
 
 shrike_compared shrike_compare(const uint64_t *old_table, size_t old_words, const uint64_t *new_table, size_t new_words, uint32_t element,

@@ -17,6 +17,7 @@
 static uint8_t schema[1024], file[3 * 8192];
 static uint64_t table[SHRIKE_TABLE_WORDS], empty_table[SHRIKE_TABLE_WORDS];
 static uint32_t doc[SHRIKE_MOST_TOKENS], used;
+static int32_t counts[SHRIKE_COUNT_PLACES];
 
 static void *nothing(void *answer) {
     return answer;
@@ -85,7 +86,7 @@ static void *translates(void *answer) {
 }
 
 static void *checks(void *answer) {
-    shrike_verdict r = shrike_check(table, SHRIKE_TABLE_WORDS, doc, SHRIKE_MOST_TOKENS, used);
+    shrike_verdict r = shrike_check(table, SHRIKE_TABLE_WORDS, doc, SHRIKE_MOST_TOKENS, used, counts);
     *(uint32_t *)answer = r.number;
     return answer;
 }
@@ -94,7 +95,7 @@ static void *edits(void *answer) {
     static const uint32_t piece[] = {1 * 8 + 1, 2};
     static uint32_t back[SHRIKE_MOST_BACK];
     shrike_answer r =
-        shrike_edit(table, SHRIKE_TABLE_WORDS, doc, SHRIKE_MOST_TOKENS, used, 1, used - 1, piece, 2, back, SHRIKE_MOST_BACK);
+        shrike_edit(table, SHRIKE_TABLE_WORDS, doc, SHRIKE_MOST_TOKENS, used, 1, used - 1, piece, 2, back, SHRIKE_MOST_BACK, counts);
     *(uint32_t *)answer = r.number;
     return answer;
 }
@@ -102,8 +103,14 @@ static void *edits(void *answer) {
 /* A list of edits that are done, the first two of which fill the document. */
 static void *steps(void *answer) {
     static const uint32_t list[] = {2, 1, 0, 1, 1, 2, 1 * 8 + 1, 2, 3, 1, 2, 1 * 8 + 1, 2, 2, 3, 0};
-    shrike_listed r = shrike_list(table, SHRIKE_TABLE_WORDS, doc, SHRIKE_MOST_TOKENS, used, list, sizeof list / sizeof *list);
+    shrike_listed r = shrike_list(table, SHRIKE_TABLE_WORDS, doc, SHRIKE_MOST_TOKENS, used, list, sizeof list / sizeof *list, counts);
     *(uint32_t *)answer = r.last.number == 0 && r.done == 4 ? 0 : 1 + r.last.number;
+    return answer;
+}
+
+static void *asks(void *answer) {
+    shrike_count r = shrike_elements(table, SHRIKE_TABLE_WORDS, counts, 0);
+    *(uint32_t *)answer = r.number;
     return answer;
 }
 
@@ -175,6 +182,7 @@ int main(void) {
     told("shrike_edit", edits);
     used += 2;
     told("shrike_list", steps);
+    told("shrike_elements", asks);
     told("shrike_compare", compares);
     return wrong;
 }

@@ -28,7 +28,7 @@ fn documents_are_valid_and_refused_where_they_should_be() {
         let table = table(&mix.schema());
         for size in SIZES {
             let tokens = mix.document(size);
-            let answer = |tokens: &[u32]| PLAIN.check(&table, tokens, size as u64);
+            let answer = |tokens: &[u32]| PLAIN.check(&table, tokens, size as u64, &mut [0; 48]);
             assert_eq!(answer(&tokens).number, 0, "{} {}", mix.name(), size);
             assert_eq!(answer(&with_other_root(&tokens)).number, 10);
             let wrong = answer(&with_last_element_wrong(&tokens));
@@ -49,20 +49,22 @@ fn edits_are_done_and_taken_back() {
         for spot in SPOTS {
             for pair in mix.pairs(&buffer[..8184], spot) {
                 let (edit, back) = (pair.edit, pair.back);
-                let done = PLAIN.edit(&table, &mut buffer, 8184, edit.operation, edit.place, &edit.piece, &mut noted);
+                let done = PLAIN.edit(&table, &mut buffer, 8184, edit.operation, edit.place, &edit.piece, &mut noted, &mut [4000; 48]);
                 assert_eq!(done.number, 0, "{} {}", mix.name(), pair.name);
                 assert_eq!(
                     (noted[0], u64::from(noted[1]), &noted[3..][..noted[2] as usize]),
                     (back.operation, back.place, &back.piece[..])
                 );
-                let undone = PLAIN.edit(&table, &mut buffer, done.used, back.operation, back.place, &back.piece, &mut noted);
+                let undone =
+                    PLAIN.edit(&table, &mut buffer, done.used, back.operation, back.place, &back.piece, &mut noted, &mut [4000; 48]);
                 assert_eq!((undone.number, undone.used), (0, 8184), "{} {}", mix.name(), pair.back_name);
                 assert_eq!(buffer, before);
             }
             for refused in mix.refused_inserts(&buffer[..8184], spot) {
                 let room = if refused.is_full { 8184 } else { 8192 };
                 let edit = refused.edit;
-                let answer = PLAIN.edit(&table, &mut buffer[..room], 8184, edit.operation, edit.place, &edit.piece, &mut noted);
+                let answer =
+                    PLAIN.edit(&table, &mut buffer[..room], 8184, edit.operation, edit.place, &edit.piece, &mut noted, &mut [4000; 48]);
                 assert_eq!(answer.number, refused.number, "{} {}", mix.name(), refused.after);
             }
         }
@@ -80,10 +82,10 @@ fn steps_are_done_and_taken_back() {
             assert!(count == 1 || (0..4).all(|quarter| places.contains(&quarter)), "{} is spread", mix.name());
             let mut buffer = tokens.clone();
             buffer.resize(8192, 0);
-            let there = PLAIN.list(&table, &mut buffer, 8184, &numbers(&step.there));
+            let there = PLAIN.list(&table, &mut buffer, 8184, &numbers(&step.there), &mut [4000; 48]);
             assert_eq!((there.last.number, there.done as usize), (0, count), "{}", mix.name());
             assert_eq!(buffer[..there.last.used as usize], step.tokens);
-            let back = PLAIN.list(&table, &mut buffer, there.last.used, &numbers(&step.back));
+            let back = PLAIN.list(&table, &mut buffer, there.last.used, &numbers(&step.back), &mut [4000; 48]);
             assert_eq!((back.last.number, back.done as usize, back.last.used), (0, count, 8184));
             assert_eq!(buffer[..8184], tokens);
         }

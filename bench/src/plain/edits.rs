@@ -1,11 +1,12 @@
 //! The five edits: each is a splice, made in a scratch list, judged there and copied back.
 
+use super::counts;
 use super::judge;
 use super::keys::Keys;
 use super::shape::{self, is_token, number, sort, ATTRIBUTE, END, START, TEXT, VALUE};
 use super::table::Table;
 use super::{Fault, DEPTH, TOKENS};
-use crate::calls::{Answer, Edit, DROP, INSERT, REMOVE, REPLACE, SET};
+use crate::calls::{Answer, Counts, Edit, DROP, INSERT, REMOVE, REPLACE, SET};
 
 /// What an edit does: `cut` tokens from `at` on give way to `put`. `touched` is the element around it, none for the root itself.
 struct Splice<'a> {
@@ -41,9 +42,10 @@ pub fn edit(
     place: u64,
     piece: &[u32],
     back: Option<&mut [u32]>,
+    counts: &mut Counts,
     keys: Keys,
 ) -> Answer {
-    match made(words, buffer, used, operation, place, piece, back, keys) {
+    match made(words, buffer, used, operation, place, piece, back, counts, keys) {
         Ok((new, children)) => {
             Answer { number: 0, place: 0, used: new as u64, change: new as i32 - used as i32, children: children as u32 }
         }
@@ -66,6 +68,7 @@ fn made(
     place: u64,
     piece: &[u32],
     back: Option<&mut [u32]>,
+    counts: &mut Counts,
     keys: Keys,
 ) -> Result<(usize, usize), Fault> {
     let table = Table::proper(words).ok_or(13u32)?;
@@ -86,6 +89,8 @@ fn made(
         Some(back) => Some(back.get_mut(..3 + with.len()).ok_or(5u32)?),
         None => None,
     };
+    let went = &tokens[splice.at..splice.at + splice.cut];
+    let moved = counts::moved(table, counts, went, splice.put).ok_or(15u32)?;
 
     let edited = splice.made(tokens);
     let of_piece = judge::starts(&edited, splice.at, splice.at + splice.put.len());
@@ -95,6 +100,7 @@ fn made(
         back[..3].copy_from_slice(&[by, place as u32, with.len() as u32]);
         back[3..].copy_from_slice(with);
     }
+    *counts = moved;
     let old = tokens.len();
     buffer[..new].copy_from_slice(&edited);
     if new < old {

@@ -1,14 +1,18 @@
 //! The judgement of a document, whole or at touched elements.
 
+use super::counts;
 use super::keys::{self, Keys};
 use super::shape::{self, number, sort, ATTRIBUTE, END, START, TEXT, VALUE};
 use super::table::{self, Element, Table};
 use super::Fault;
+use crate::calls::Counts;
 
-pub fn check(words: &[u64], buffer: &[u32], used: u64, keys: Keys) -> Result<(), Fault> {
+pub fn check(words: &[u64], buffer: &[u32], used: u64, counts: &mut Counts, keys: Keys) -> Result<(), Fault> {
     let table = Table::proper(words).ok_or(13u32)?;
     let tokens = shape::document(buffer, used).ok_or(4u32)?;
-    judge(table, tokens, starts(tokens, 0, tokens.len()), keys).map(|_| ())
+    judge(table, tokens, starts(tokens, 0, tokens.len()), keys)?;
+    *counts = counts::fresh(table, tokens);
+    Ok(())
 }
 
 /// The places of starts, rising, from `from` to before `to`.

@@ -3,7 +3,7 @@
 use super::edits::{edit, refused};
 use super::keys::Keys;
 use super::EDITS;
-use crate::calls::Listed;
+use crate::calls::{Counts, Listed};
 
 /// An edit of a list.
 pub struct Request<'a> {
@@ -42,14 +42,14 @@ fn first(list: &[u32]) -> Option<(Request<'_>, &[u32])> {
     }
 }
 
-pub fn list(table: &[u64], buffer: &mut [u32], used: u64, list: &[u32], keys: Keys) -> Listed {
+pub fn list(table: &[u64], buffer: &mut [u32], used: u64, list: &[u32], counts: &mut Counts, keys: Keys) -> Listed {
     let requests = match requests(list) {
         Ok(requests) => requests,
         Err(number) => return Listed { last: refused(number.into(), used), done: 0 },
     };
     let mut listed = Listed { last: refused(0.into(), used), done: 0 };
     for Request { operation, place, piece } in requests {
-        listed.last = edit(table, buffer, listed.last.used, operation, place, piece, None, keys);
+        listed.last = edit(table, buffer, listed.last.used, operation, place, piece, None, counts, keys);
         if listed.last.number != 0 {
             break;
         }

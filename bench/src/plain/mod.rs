@@ -1,4 +1,4 @@
-//! The straightforward version: the ten calls in safe Rust, as one writes them without proofs.
+//! The straightforward version: the eleven calls in safe Rust, as one writes them without proofs.
 //!
 //! It promises what the core promises. It trusts no caller: table and shape are tested at each call. It judges in the paper's
 //! order. A refusal leaves lent memory as it was.
@@ -6,6 +6,7 @@
 //! There are two of it, which differ in one thing: how an ID met twice is found (`Keys`).
 
 mod compare;
+mod counts;
 mod dtd;
 mod edits;
 mod judge;
@@ -17,7 +18,7 @@ mod schema;
 mod shape;
 mod table;
 
-use crate::calls::{Answer, Calls, Compared, Count, Listed, Spot, Verdict};
+use crate::calls::{Answer, Calls, Compared, Count, Counts, Listed, Spot, Verdict};
 pub use compare::PLACES;
 pub use edits::spliced;
 pub use keys::Keys;
@@ -78,21 +79,39 @@ impl Calls for Plain {
     }
 
     #[inline(never)]
-    fn check(&self, table: &[u64], buffer: &[u32], used: u64) -> Verdict {
-        match judge::check(table, buffer, used, self.keys) {
+    fn check(&self, table: &[u64], buffer: &[u32], used: u64, counts: &mut Counts) -> Verdict {
+        match judge::check(table, buffer, used, counts, self.keys) {
             Ok(()) => Verdict { number: 0, place: 0 },
             Err(fault) => Verdict { number: fault.number, place: fault.place },
         }
     }
 
     #[inline(never)]
-    fn edit(&self, table: &[u64], buffer: &mut [u32], used: u64, operation: u32, place: u64, piece: &[u32], back: &mut [u32]) -> Answer {
-        edits::edit(table, buffer, used, operation, place, piece, Some(back), self.keys)
+    fn edit(
+        &self,
+        table: &[u64],
+        buffer: &mut [u32],
+        used: u64,
+        operation: u32,
+        place: u64,
+        piece: &[u32],
+        back: &mut [u32],
+        counts: &mut Counts,
+    ) -> Answer {
+        edits::edit(table, buffer, used, operation, place, piece, Some(back), counts, self.keys)
     }
 
     #[inline(never)]
-    fn list(&self, table: &[u64], buffer: &mut [u32], used: u64, list: &[u32]) -> Listed {
-        lists::list(table, buffer, used, list, self.keys)
+    fn list(&self, table: &[u64], buffer: &mut [u32], used: u64, list: &[u32], counts: &mut Counts) -> Listed {
+        lists::list(table, buffer, used, list, counts, self.keys)
+    }
+
+    #[inline(never)]
+    fn elements(&self, table: &[u64], counts: &Counts, name: u32) -> Count {
+        match counts::elements(table, counts, name) {
+            Ok(count) => Count { number: 0, count },
+            Err(number) => Count { number, count: 0 },
+        }
     }
 
     #[inline(never)]

@@ -1,7 +1,7 @@
 //! The plain version on the paper's small shade and its four models.
 
 use super::{Keys, Plain, BACK, PLACES, WORDS};
-use crate::calls::{Answer, Calls, Compared, Count, Verdict};
+use crate::calls::{Answer, Calls, Compared, Count, Counts, Verdict};
 use crate::documents::{cycle, file, other_small_shade};
 
 const SCHEMA: [u8; 28] = [4, 0, 2, 5, 0, 4, 6, 3, 8, 1, 0, 0, 0, 2, 2, 3, 7, 1, 1, 1, 0, 1, 0, 0, 1, 2, 2, 0];
@@ -17,6 +17,13 @@ fn table(plain: &Plain) -> Vec<u64> {
     table
 }
 
+/// The counts of a valid document.
+fn counts_of(table: &[u64], tokens: &[u32]) -> Counts {
+    let mut counts = [-7; 48];
+    assert_eq!(Plain { keys: Keys::Field }.check(table, tokens, tokens.len() as u64, &mut counts), Verdict { number: 0, place: 0 });
+    counts
+}
+
 /// The answer to an edit of the small shade in a buffer of 32 places. If it is done, it is taken back.
 fn answer(operation: u32, place: u64, piece: &[u32]) -> Answer {
     let [plain, field] = both();
@@ -26,20 +33,21 @@ fn answer(operation: u32, place: u64, piece: &[u32]) -> Answer {
     let before = buffer;
     let mut second = buffer;
     let (mut back, mut other) = ([7; 32], [7; 32]);
-    let answer = plain.edit(&table, &mut buffer, 15, operation, place, piece, &mut back);
-    assert_eq!(answer, field.edit(&table, &mut second, 15, operation, place, piece, &mut other));
-    assert_eq!((buffer, back), (second, other));
+    let (mut counts, mut second_counts) = (counts_of(&table, &SHADE), counts_of(&table, &SHADE));
+    let answer = plain.edit(&table, &mut buffer, 15, operation, place, piece, &mut back, &mut counts);
+    assert_eq!(answer, field.edit(&table, &mut second, 15, operation, place, piece, &mut other, &mut second_counts));
+    assert_eq!((buffer, back, counts), (second, other, second_counts));
     assert_eq!(answer.change as i64, answer.used as i64 - 15);
     if answer.number == 0 {
         let used = answer.used as usize;
         assert!(buffer[used..].iter().enumerate().all(|(k, &token)| token == if used + k < 15 { 0 } else { 7 }));
-        assert_eq!(plain.check(&table, &buffer, answer.used), Verdict { number: 0, place: 0 });
+        assert_eq!(counts, counts_of(&table, &buffer[..used]));
         let (by, with) = (back[0], &back[3..3 + back[2] as usize]);
-        let undone = plain.edit(&table, &mut buffer, answer.used, by, u64::from(back[1]), with, &mut other[..3 + piece.len()]);
-        assert_eq!((undone.number, undone.used, &buffer[..15]), (0, 15, &SHADE[..]));
+        let undone = plain.edit(&table, &mut buffer, answer.used, by, u64::from(back[1]), with, &mut other[..3 + piece.len()], &mut counts);
+        assert_eq!((undone.number, undone.used, &buffer[..15], counts), (0, 15, &SHADE[..], counts_of(&table, &SHADE)));
         assert_eq!((other[0], u64::from(other[1]), &other[3..3 + piece.len()]), (operation, place, piece));
     } else {
-        assert_eq!((buffer, back), (before, [7; 32]));
+        assert_eq!((buffer, back, counts), (before, [7; 32], counts_of(&table, &SHADE)));
     }
     answer
 }
@@ -53,10 +61,10 @@ fn edited(operation: u32, place: u64, piece: &[u32]) -> (u32, u32, u64) {
 #[test]
 fn small_shade_is_valid() {
     for plain in &both() {
-        assert_eq!(plain.check(&table(plain), &SHADE, 15), Verdict { number: 0, place: 0 });
-        assert_eq!(plain.check(&table(plain), &SHADE, 14).number, 4);
-        assert_eq!(plain.check(&table(plain), &SHADE, 16).number, 4);
-        assert_eq!(plain.check(&table(plain)[1..], &SHADE, 15).number, 13);
+        assert_eq!(plain.check(&table(plain), &SHADE, 15, &mut [0; 48]), Verdict { number: 0, place: 0 });
+        assert_eq!(plain.check(&table(plain), &SHADE, 14, &mut [0; 48]).number, 4);
+        assert_eq!(plain.check(&table(plain), &SHADE, 16, &mut [0; 48]).number, 4);
+        assert_eq!(plain.check(&table(plain)[1..], &SHADE, 15, &mut [0; 48]).number, 13);
     }
 }
 
@@ -121,10 +129,34 @@ fn a_run_of_edits() {
         (2, 3, &[], (0, 0, 8)),
     ];
     for (operation, place, piece, expected) in steps {
-        let Answer { number, place, used: now, .. } = plain.edit(&table, &mut buffer, used, operation, place, piece, &mut [0; BACK]);
+        let Answer { number, place, used: now, .. } =
+            plain.edit(&table, &mut buffer, used, operation, place, piece, &mut [0; BACK], &mut [100; 48]);
         assert_eq!((number, place, now), expected);
         used = now;
     }
+}
+
+/// Counts are written by a check, asked for, and kept in their range.
+#[test]
+fn counts() {
+    let plain = Plain { keys: Keys::Field };
+    let table = table(&plain);
+    let mut counts = counts_of(&table, &SHADE);
+    assert_eq!(counts[..5], [1, 1, 1, 1, 0]);
+    let asked = |counts: &Counts, name| plain.elements(&table, counts, name);
+    assert_eq!((asked(&counts, 3), asked(&counts, 4)), (Count { number: 0, count: 1 }, Count { number: 0, count: 0 }));
+    assert_eq!(plain.elements(&table[1..], &counts, 3).number, 13);
+    for (panels, number) in [(-1, 0), (-2, 15), (8191, 0), (8192, 15), (i32::MAX, 15), (i32::MIN, 15)] {
+        let mut buffer = [7; 32];
+        buffer[..15].copy_from_slice(&SHADE);
+        let mut lent = counts;
+        lent[1] = panels;
+        assert_eq!(plain.edit(&table, &mut buffer, 15, 1, 10, &[9, 12, 173, 2], &mut [0; 3], &mut lent).number, number);
+        assert_eq!(lent[1], if number == 0 { panels + 1 } else { panels });
+    }
+    counts[47] = -1;
+    assert_eq!(asked(&counts, 99).number, 15);
+    assert_eq!(plain.edit(&table, &mut SHADE.clone(), 15, 2, 3, &[], &mut [0; 10], &mut counts).number, 15);
 }
 
 /// A list is its single edits, up to one that is refused; and it is refused itself before any is made.
@@ -135,7 +167,9 @@ fn lists() {
     let listed = |list: &[u32]| {
         let mut buffer = [7; 32];
         buffer[..15].copy_from_slice(&SHADE);
-        let listed = plain.list(&table, &mut buffer, 15, list);
+        let mut counts = counts_of(&table, &SHADE);
+        let listed = plain.list(&table, &mut buffer, 15, list, &mut counts);
+        assert_eq!(counts, counts_of(&table, &buffer[..listed.last.used as usize]));
         ((listed.last.number, listed.last.place, listed.last.used, listed.last.change, listed.done), buffer)
     };
     let step = [1, 10, 4, 9, 12, 173, 2, 2, 14, 0, 2, 3, 0, 2, 3, 0];

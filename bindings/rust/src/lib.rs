@@ -6,7 +6,7 @@
 //!
 //! ```
 //! use shrikemuff::numbers::TEXT_ONLY;
-//! use shrikemuff::{read, token, write, Edit, Refusal, Table, MOST_BACK, MOST_TOKENS};
+//! use shrikemuff::{read, token, write, Edit, Refusal, Table, COUNT_PLACES, MOST_BACK, MOST_TOKENS};
 //!
 //! let mut schema = [0; 4];
 //! write(&[1, 0, TEXT_ONLY, 0], &mut schema).unwrap(); // one element, 0, with text
@@ -14,11 +14,13 @@
 //! let mut doc = vec![0; MOST_TOKENS];
 //! let used = read(&[1, 11, 2], &mut doc).unwrap();
 //! assert_eq!(doc[..used], [token::start(0), token::text(1), token::end()]);
-//! assert_eq!(table.check(&doc, used), Ok(()));
+//! let mut counts = [0; COUNT_PLACES];
+//! assert_eq!(table.check(&doc, used, &mut counts), Ok(()));
+//! assert_eq!(table.elements(&counts, 0), Ok(1));
 //! let mut back = vec![0; MOST_BACK];
-//! let fault = table.edit(&mut doc, used, Edit::insert(1, &[token::text(2)]), &mut back).unwrap_err();
+//! let fault = table.edit(&mut doc, used, Edit::insert(1, &[token::text(2)]), &mut back, &mut counts).unwrap_err();
 //! assert_eq!((fault.refusal, fault.place), (Refusal::Content, 2)); // a second text
-//! let done = table.edit(&mut doc, used, Edit::remove(1), &mut back).unwrap();
+//! let done = table.edit(&mut doc, used, Edit::remove(1), &mut back, &mut counts).unwrap();
 //! assert_eq!((done.used, done.change, done.children), (2, -1, 0));
 //! assert_eq!(done.back, Edit::insert(1, &[token::text(1)]));
 //! ```
@@ -44,7 +46,7 @@ pub mod token;
 
 pub use dtd::{import, import_spot, names, Spot};
 pub use edit::{Done, Edit, Last, Listed};
-pub use numbers::{MOST_BACK, MOST_BYTES, MOST_EDITS, MOST_SCHEMA_FILE, MOST_TOKENS, SEQUENCE_PLACES, TABLE_WORDS, VERSION};
+pub use numbers::{COUNT_PLACES, MOST_BACK, MOST_BYTES, MOST_EDITS, MOST_SCHEMA_FILE, MOST_TOKENS, SEQUENCE_PLACES, TABLE_WORDS, VERSION};
 pub use refusal::{Fault, Refusal};
 
 #[cfg(not(target_pointer_width = "64"))]
@@ -87,6 +89,11 @@ pub fn write(tokens: &[u32], file: &mut [u8]) -> Result<usize, Refusal> {
     Refusal::of(r.number).map(|()| r.count as usize)
 }
 
+/// How many elements of each name a document has, by name, and 0 for names that its schema does not have. Kept beside the document: written
+/// by a check that says valid, carried along by edits and lists, asked by [`Table::elements`]. Other numbers may stand in it; an edit after
+/// which one would be below 0 or above 8,192 is [`Refusal::Counts`].
+pub type Counts = [i32; COUNT_PLACES];
+
 /// A schema's table.
 #[derive(Clone, PartialEq, Eq)]
 pub struct Table {
@@ -114,49 +121,69 @@ impl Table {
         &self.words
     }
 
-    /// Whether the first `used` tokens of `doc` are a valid document.
-    pub fn check(&self, doc: &[u32], used: usize) -> Result<(), Fault> {
+    /// Whether the first `used` tokens of `doc` are a valid document. If they are, `counts` holds its elements; else it is left as it was.
+    pub fn check(&self, doc: &[u32], used: usize, counts: &mut Counts) -> Result<(), Fault> {
         served()?;
-        // SAFETY: as in `read`.
-        let r = unsafe { raw::shrike_check(self.words.as_ptr(), TABLE_WORDS, doc.as_ptr(), doc.len(), used as u64) };
+        // SAFETY: as in `read`; the counts are as many as the call takes.
+        let r = unsafe {
+            let (words, room) = (self.words.as_ptr(), doc.len());
+            raw::shrike_check(words, TABLE_WORDS, doc.as_ptr(), room, used as u64, counts.as_mut_ptr())
+        };
         Fault::of(r.number, r.place)
     }
 
+    /// How many elements of a name a document has, by its counts; 0 for a name that the schema does not have.
+    pub fn elements(&self, counts: &Counts, name: u32) -> Result<usize, Refusal> {
+        served()?;
+        // SAFETY: as in `check`.
+        let r = unsafe { raw::shrike_elements(self.words.as_ptr(), TABLE_WORDS, counts.as_ptr(), name) };
+        Refusal::of(r.number).map(|()| r.count as usize)
+    }
+
     /// Edits the document in the first `used` places of `doc`, and writes the edit that takes this one back into the first places of `back`:
-    /// [`Done::back`] is read from there. Later places of `back` keep their contents, and [`MOST_BACK`] places are always enough. A refusal
-    /// leaves both as they were.
+    /// [`Done::back`] is read from there. Later places of `back` keep their contents, and [`MOST_BACK`] places are always enough. The counts
+    /// move by the elements that come less those that go. A refusal leaves all three as they were.
     ///
-    /// From a valid document, an edit that was done can always be taken back, and that again, and a whole run of edits, the last one first:
+    /// From a valid document with its counts, an edit that was done can always be taken back, and that again, and a whole run of edits, the last one first:
     ///
     /// ```
     /// use shrikemuff::numbers::{CDATA, EMPTY, IMPLIED};
-    /// use shrikemuff::{token, write, Edit, Table, MOST_BACK};
+    /// use shrikemuff::{token, write, Edit, Table, COUNT_PLACES, MOST_BACK};
     ///
     /// let mut schema = [0; 7];
     /// write(&[1, 0, EMPTY, 1, 0, CDATA, IMPLIED], &mut schema).unwrap(); // one element, 0, with an attribute, 0
     /// let table = Table::translate(&schema).unwrap();
     /// let mut doc = [token::start(0), token::end(), 0, 0];
     /// let mut used = 2;
+    /// let mut counts = [0; COUNT_PLACES];
+    /// table.check(&doc, used, &mut counts).unwrap();
     /// let mut back = [0; MOST_BACK];
     ///
     /// let mut steps: Vec<Vec<u32>> = Vec::new(); // an undo stack
     /// for value in [7, 8, 9] {
     ///     let piece = [token::attribute(0), token::value(value)];
-    ///     let done = table.edit(&mut doc, used, Edit::set(0, &piece), &mut back).unwrap();
+    ///     let done = table.edit(&mut doc, used, Edit::set(0, &piece), &mut back, &mut counts).unwrap();
     ///     used = done.used;
     ///     steps.push(done.back.numbers().collect());
     /// }
     /// assert_eq!(Edit::read(&steps[2]), Some(Edit::set(0, &[token::attribute(0), token::value(8)])));
     /// assert_eq!(Edit::read(&steps[0]), Some(Edit::drop(0, &[token::attribute(0)])));
     /// while let Some(step) = steps.pop() {
-    ///     let done = table.edit(&mut doc, used, Edit::read(&step).unwrap(), &mut back).unwrap();
+    ///     let done = table.edit(&mut doc, used, Edit::read(&step).unwrap(), &mut back, &mut counts).unwrap();
     ///     used = done.used;
     /// }
     /// assert_eq!(doc[..used], [token::start(0), token::end()]);
     /// ```
-    pub fn edit<'b>(&self, doc: &mut [u32], used: usize, edit: Edit<'_>, back: &'b mut [u32]) -> Result<Done<'b>, Fault> {
+    pub fn edit<'b>(
+        &self,
+        doc: &mut [u32],
+        used: usize,
+        edit: Edit<'_>,
+        back: &'b mut [u32],
+        counts: &mut Counts,
+    ) -> Result<Done<'b>, Fault> {
         served()?;
-        // SAFETY: as in `read`.
+        // SAFETY: as in `check`.
         let r = unsafe {
             raw::shrike_edit(
                 self.words.as_ptr(),
@@ -170,6 +197,7 @@ impl Table {
                 edit.piece.len(),
                 back.as_mut_ptr(),
                 back.len(),
+                counts.as_mut_ptr(),
             )
         };
         Fault::of(r.number, r.place)?;
@@ -178,38 +206,41 @@ impl Table {
     }
 
     /// Makes the edits of a list in one call, one after another, as [`Table::edit`] makes each; it ends at the first that is refused, and what
-    /// was done before stands. No step back is written.
+    /// was done before stands, and is counted. No step back is written.
     ///
     /// The list is 1 to [`MOST_EDITS`] edits, each as [`Edit::numbers`] has it. An empty list, and one that ends inside an edit, is
     /// [`Refusal::Shape`], one edit more is [`Refusal::Room`]; of such a list no edit is run.
     ///
     /// ```
     /// use shrikemuff::numbers::{CDATA, EMPTY, IMPLIED};
-    /// use shrikemuff::{token, write, Edit, Refusal, Table};
+    /// use shrikemuff::{token, write, Edit, Refusal, Table, COUNT_PLACES};
     ///
     /// let mut schema = [0; 7];
     /// write(&[1, 0, EMPTY, 1, 0, CDATA, IMPLIED], &mut schema).unwrap(); // one element, 0, with an attribute, 0
     /// let table = Table::translate(&schema).unwrap();
     /// let mut doc = [token::start(0), token::end(), 0, 0, 0];
+    /// let mut counts = [0; COUNT_PLACES];
+    /// table.check(&doc, 2, &mut counts).unwrap();
     ///
     /// let mut step = Vec::new();
     /// step.extend(Edit::set(0, &[token::attribute(0), token::value(7)]).numbers());
     /// step.extend(Edit::set(0, &[token::attribute(0), token::value(8)]).numbers());
     /// step.extend(Edit::insert(3, &[token::text(9)]).numbers());
     /// step.extend(Edit::drop(0, &[token::attribute(0)]).numbers());
-    /// let listed = table.list(&mut doc, 2, &step);
+    /// let listed = table.list(&mut doc, 2, &step, &mut counts);
     /// assert_eq!((listed.used, listed.done), (4, 2));
     /// assert_eq!(listed.last.unwrap_err().refusal, Refusal::Content); // a text in an element that is empty
     /// assert_eq!(doc[..4], [token::start(0), token::attribute(0), token::value(8), token::end()]);
     /// ```
-    pub fn list(&self, doc: &mut [u32], used: usize, list: &[u32]) -> Listed {
+    pub fn list(&self, doc: &mut [u32], used: usize, list: &[u32], counts: &mut Counts) -> Listed {
         if let Err(refusal) = served() {
             return Listed { used, done: 0, last: Err(refusal.into()) };
         }
-        // SAFETY: as in `read`.
+        // SAFETY: as in `check`.
         let r = unsafe {
             let (words, room) = (self.words.as_ptr(), doc.len());
-            raw::shrike_list(words, TABLE_WORDS, doc.as_mut_ptr(), room, used as u64, list.as_ptr(), list.len())
+            let (doc, counts) = (doc.as_mut_ptr(), counts.as_mut_ptr());
+            raw::shrike_list(words, TABLE_WORDS, doc, room, used as u64, list.as_ptr(), list.len(), counts)
         };
         let last = Fault::of(r.last.number, r.last.place);
         let last = last.map(|()| Last { change: r.last.change, children: r.last.children as usize });

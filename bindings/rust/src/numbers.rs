@@ -71,6 +71,9 @@ pub const FOLLOW_AT: usize = 74;
 // The places of the sequence buffer of a comparison, at least.
 pub const SEQUENCE_PLACES: usize = 4_290;
 
+// The places of counts.
+pub const COUNT_PLACES: usize = 48;
+
 // Answer numbers.
 pub const DONE: u32 = 0;
 pub const BROKEN: u32 = 1;
@@ -87,6 +90,7 @@ pub const ID_TWICE: u32 = 11;
 pub const NO_ID: u32 = 12;
 pub const TABLE: u32 = 13;
 pub const DTD_TEXT: u32 = 14;
+pub const COUNTS: u32 = 15;
 pub const NOT_COMPARED: u32 = 16;
 
 // Operations.

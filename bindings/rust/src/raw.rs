@@ -60,7 +60,7 @@ extern "C" {
     pub fn shrike_names(text: *const u8, n: usize, names: *mut u8, room: usize) -> Count;
     pub fn shrike_import_spot(text: *const u8, n: usize) -> Spot;
     pub fn shrike_translate(file: *const u8, file_len: usize, table: *mut u64, words: usize) -> u32;
-    pub fn shrike_check(table: *const u64, words: usize, doc: *const u32, room: usize, used: u64) -> Verdict;
+    pub fn shrike_check(table: *const u64, words: usize, doc: *const u32, room: usize, used: u64, counts: *mut i32) -> Verdict;
     pub fn shrike_edit(
         table: *const u64,
         words: usize,
@@ -73,8 +73,19 @@ extern "C" {
         n: usize,
         back: *mut u32,
         back_room: usize,
+        counts: *mut i32,
     ) -> Answer;
-    pub fn shrike_list(table: *const u64, words: usize, doc: *mut u32, room: usize, used: u64, list: *const u32, n: usize) -> Listed;
+    pub fn shrike_list(
+        table: *const u64,
+        words: usize,
+        doc: *mut u32,
+        room: usize,
+        used: u64,
+        list: *const u32,
+        n: usize,
+        counts: *mut i32,
+    ) -> Listed;
+    pub fn shrike_elements(table: *const u64, words: usize, counts: *const i32, name: u32) -> Count;
     pub fn shrike_compare(
         old_table: *const u64,
         old_words: usize,

@@ -34,6 +34,8 @@ pub enum Refusal {
     Table,
     /// DTD text
     DtdText,
+    /// counts
+    Counts,
     /// kind not compared
     NotCompared,
     /// an answer that this binding does not know, of a newer library
@@ -59,6 +61,7 @@ impl Refusal {
         Refusal::NoId,
         Refusal::Table,
         Refusal::DtdText,
+        Refusal::Counts,
         Refusal::NotCompared,
     ];
 
@@ -79,6 +82,7 @@ impl Refusal {
             Refusal::NoId => numbers::NO_ID,
             Refusal::Table => numbers::TABLE,
             Refusal::DtdText => numbers::DTD_TEXT,
+            Refusal::Counts => numbers::COUNTS,
             Refusal::NotCompared => numbers::NOT_COMPARED,
             Refusal::Unknown(number) => number,
             Refusal::Version(_) => return None,
@@ -102,6 +106,7 @@ impl Refusal {
             Refusal::NoId => "reference to none",
             Refusal::Table => "table",
             Refusal::DtdText => "DTD text",
+            Refusal::Counts => "counts",
             Refusal::NotCompared => "kind not compared",
             Refusal::Unknown(_) => "unknown answer",
             Refusal::Version(_) => "library of another version",

@@ -1,11 +1,13 @@
 //! A library that is newer than the binding: `tests/hosts` runs this with tests/header/newer.c in the library's place.
-use shrikemuff::{compare, import, import_spot, library_version, names, read, write, Edit, Refusal, Table, TABLE_WORDS, VERSION};
+use shrikemuff::{
+    compare, import, import_spot, library_version, names, read, write, Edit, Refusal, Table, COUNT_PLACES, TABLE_WORDS, VERSION,
+};
 use std::env::set_var;
 
 /// What each call is refused with, in the order of `CALLS`.
 fn refusals() -> Vec<Option<Refusal>> {
     let table = Table::from_words(Box::new([0; TABLE_WORDS]));
-    let mut doc = [0; 4];
+    let (mut doc, mut counts) = ([0; 4], [0; COUNT_PLACES]);
     vec![
         read(&[], &mut doc).err(),
         write(&[], &mut []).err(),
@@ -13,14 +15,15 @@ fn refusals() -> Vec<Option<Refusal>> {
         names(&[], &mut []).err(),
         import_spot(&[]).err().map(|spot| spot.refusal),
         Table::translate(&[]).err(),
-        table.check(&doc, 0).err().map(|fault| fault.refusal),
-        table.edit(&mut doc, 0, Edit::remove(1), &mut [0; 3]).err().map(|fault| fault.refusal),
-        table.list(&mut doc, 0, &[2, 1, 0]).last.err().map(|fault| fault.refusal),
+        table.check(&doc, 0, &mut counts).err().map(|fault| fault.refusal),
+        table.edit(&mut doc, 0, Edit::remove(1), &mut [0; 3], &mut counts).err().map(|fault| fault.refusal),
+        table.list(&mut doc, 0, &[2, 1, 0], &mut counts).last.err().map(|fault| fault.refusal),
+        table.elements(&counts, 0).err(),
         compare(&table, &table, 0, &mut []).err(),
     ]
 }
 
-const CALLS: [&str; 10] = ["read", "write", "import", "names", "import_spot", "translate", "check", "edit", "list", "compare"];
+const CALLS: [&str; 11] = ["read", "write", "import", "names", "import_spot", "translate", "check", "edit", "list", "elements", "compare"];
 
 #[test]
 #[ignore = "the library is not the newer one"]

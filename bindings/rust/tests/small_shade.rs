@@ -1,6 +1,6 @@
 //! The paper's small shade, and what the binding adds to the calls: lengths, answers as types.
-use shrikemuff::{compare, raw, read, token, write, Edit, Fault, Refusal, Table};
-use shrikemuff::{MOST_BYTES, MOST_EDITS, MOST_TOKENS, SEQUENCE_PLACES, TABLE_WORDS};
+use shrikemuff::{compare, raw, read, token, write, Counts, Edit, Fault, Refusal, Table};
+use shrikemuff::{COUNT_PLACES, MOST_BYTES, MOST_EDITS, MOST_TOKENS, SEQUENCE_PLACES, TABLE_WORDS};
 
 const SCHEMA: [u8; 28] = [4, 0, 2, 5, 0, 4, 6, 3, 8, 1, 0, 0, 0, 2, 2, 3, 7, 1, 1, 1, 0, 1, 0, 0, 1, 2, 2, 0];
 const SHADE: [u32; 15] = [1, 4, 61, 9, 12, 165, 17, 243, 2, 2, 25, 20, 165, 2, 2];
@@ -18,16 +18,27 @@ fn shade() -> Vec<u32> {
     doc
 }
 
+/// The elements of a document, counted.
+fn counts_of(tokens: &[u32]) -> Counts {
+    let mut counts = [0; COUNT_PLACES];
+    for &start in tokens.iter().filter(|&&t| token::sort(t) == 1) {
+        counts[token::number(start) as usize] += 1;
+    }
+    counts
+}
+
 fn fault<T>(refusal: Refusal, place: usize) -> Result<T, Fault> {
     Err(Fault { refusal, place })
 }
 
 /// Makes one edit of the shade: the new length, the change and the children looked at are due, or a fault. A refusal changes nothing; an
-/// edit that is done leaves `left`, zeros up to the old length, and what was behind.
+/// edit that is done leaves `left`, zeros up to the old length, and what was behind. The counts are those of the document, before and after.
 #[track_caller]
 fn edited(edit: Edit<'_>, due: Result<(usize, i32, usize), Fault>, left: &[u32]) {
-    let (mut doc, mut back) = (shade(), [BEHIND; 40]);
-    assert_eq!(table().edit(&mut doc, 15, edit, &mut back).map(|done| (done.used, done.change, done.children)), due);
+    let (mut doc, mut back, mut counts) = (shade(), [BEHIND; 40], counts_of(&SHADE));
+    let done = table().edit(&mut doc, 15, edit, &mut back, &mut counts);
+    assert_eq!(done.map(|done| (done.used, done.change, done.children)), due);
+    assert_eq!(counts, counts_of(&doc[..done.map_or(15, |done| done.used)]));
     let mut expected = shade();
     if due.is_ok() {
         expected[..15].fill(0);
@@ -76,16 +87,16 @@ fn schemas() {
 #[test]
 fn checks() {
     let doc = shade();
-    assert_eq!(table().check(&doc, 15), Ok(()));
-    assert_eq!(table().check(&doc, 14), fault(Refusal::Shape, 0));
-    assert_eq!(table().check(&doc, usize::MAX), fault(Refusal::Shape, 0));
-    assert_eq!(Table::from_words(Box::new([0; TABLE_WORDS])).check(&doc, 15), fault(Refusal::Table, 0));
+    assert_eq!(table().check(&doc, 15, &mut [100; COUNT_PLACES]), Ok(()));
+    assert_eq!(table().check(&doc, 14, &mut [100; COUNT_PLACES]), fault(Refusal::Shape, 0));
+    assert_eq!(table().check(&doc, usize::MAX, &mut [100; COUNT_PLACES]), fault(Refusal::Shape, 0));
+    assert_eq!(Table::from_words(Box::new([0; TABLE_WORDS])).check(&doc, 15, &mut [100; COUNT_PLACES]), fault(Refusal::Table, 0));
     let mut other = shade();
     other[0] = 9;
-    assert_eq!(table().check(&other, 15), fault(Refusal::Root, 0));
+    assert_eq!(table().check(&other, 15, &mut [100; COUNT_PLACES]), fault(Refusal::Root, 0));
     let mut other = shade();
     other[12] = 173;
-    assert_eq!(table().check(&other, 15), fault(Refusal::NoId, 12));
+    assert_eq!(table().check(&other, 15, &mut [100; COUNT_PLACES]), fault(Refusal::NoId, 12));
 }
 
 #[test]
@@ -111,7 +122,7 @@ fn edits() {
     edited(Edit { operation: 6, place: 3, piece: &[] }, fault(Place, 0), &[]);
     edited(Edit::insert(10, &panel[..3]), fault(Shape, 0), &[]);
     let mut short = SHADE;
-    assert_eq!(table().edit(&mut short, 15, Edit::insert(10, &panel), &mut [0; 3]), fault(Room, 0));
+    assert_eq!(table().edit(&mut short, 15, Edit::insert(10, &panel), &mut [0; 3], &mut [100; COUNT_PLACES]), fault(Room, 0));
     assert_eq!(short, SHADE);
 }
 
@@ -121,10 +132,12 @@ fn taken_back(table: &Table, tokens: &[u32], edit: Edit<'_>, due: Edit<'_>) {
     let used = tokens.len();
     let (mut doc, mut back, mut other) = (tokens.to_vec(), [BEHIND; 40], [BEHIND; 40]);
     doc.resize(40, BEHIND);
-    let done = table.edit(&mut doc, used, edit, &mut back).unwrap();
+    let mut counts = counts_of(tokens);
+    let done = table.edit(&mut doc, used, edit, &mut back, &mut counts).unwrap();
     assert_eq!(done.back, due);
-    let undone = table.edit(&mut doc, done.used, done.back, &mut other).unwrap();
-    assert_eq!((undone.used, undone.change), (used, -done.change));
+    assert_eq!(counts, counts_of(&doc[..done.used]));
+    let undone = table.edit(&mut doc, done.used, done.back, &mut other, &mut counts).unwrap();
+    assert_eq!((undone.used, undone.change, counts), (used, -done.change, counts_of(tokens)));
     assert_eq!(undone.back, edit);
     assert_eq!(doc[..used], *tokens);
     let numbers: Vec<u32> = due.numbers().collect();
@@ -132,9 +145,9 @@ fn taken_back(table: &Table, tokens: &[u32], edit: Edit<'_>, due: Edit<'_>) {
     assert!(back[numbers.len()..].iter().all(|&number| number == BEHIND));
     // as much room as it takes, and no less: nothing is written then
     let least = numbers.len();
-    assert_eq!(table.edit(&mut doc, used, edit, &mut other[..least - 1]), fault(Refusal::Room, 0));
+    assert_eq!(table.edit(&mut doc, used, edit, &mut other[..least - 1], &mut counts), fault(Refusal::Room, 0));
     assert_eq!(doc[..used], *tokens);
-    assert!(table.edit(&mut doc, used, edit, &mut other[..least]).is_ok());
+    assert!(table.edit(&mut doc, used, edit, &mut other[..least], &mut counts).is_ok());
 }
 
 #[test]
@@ -160,13 +173,13 @@ fn steps_back() {
 #[test]
 fn short_second_buffers() {
     let mut doc = shade();
-    let mut back = [BEHIND; 10];
+    let (mut back, mut counts) = ([BEHIND; 10], counts_of(&SHADE));
     for room in 0..10 {
-        assert_eq!(table().edit(&mut doc, 15, Edit::remove(3), &mut back[..room]), fault(Refusal::Room, 0));
-        assert_eq!(table().edit(&mut doc, 15, Edit::remove(15), &mut back[..room]), fault(Refusal::Place, 0));
+        assert_eq!(table().edit(&mut doc, 15, Edit::remove(3), &mut back[..room], &mut counts), fault(Refusal::Room, 0));
+        assert_eq!(table().edit(&mut doc, 15, Edit::remove(15), &mut back[..room], &mut counts), fault(Refusal::Place, 0));
     }
-    assert_eq!(table().edit(&mut doc, 15, Edit::remove(3), &mut back), fault(Refusal::Content, 3));
-    assert_eq!(back, [BEHIND; 10]);
+    assert_eq!(table().edit(&mut doc, 15, Edit::remove(3), &mut back, &mut counts), fault(Refusal::Content, 3));
+    assert_eq!((back, counts), ([BEHIND; 10], counts_of(&SHADE)));
     assert_eq!(doc, shade());
 }
 
@@ -194,8 +207,9 @@ fn step() -> Vec<u32> {
 /// Makes a list of edits of the shade: the new length, how many are done, and of the last one change and children or a fault.
 #[track_caller]
 fn listed(list: &[u32], due: (usize, usize, Result<(i32, usize), Fault>)) -> Vec<u32> {
-    let mut doc = shade();
-    let listed = table().list(&mut doc, 15, list);
+    let (mut doc, mut counts) = (shade(), counts_of(&SHADE));
+    let listed = table().list(&mut doc, 15, list, &mut counts);
+    assert_eq!(counts, counts_of(&doc[..listed.used]));
     assert_eq!((listed.used, listed.done, listed.last.map(|last| (last.change, last.children))), due);
     doc
 }
@@ -230,10 +244,45 @@ fn lists() {
     assert_eq!(listed(&[&set[..], &edit].concat(), (15, 1, fault(Shape, 0))), done);
     // the table and the document are the first edit's
     let none = Table::from_words(Box::new([0; TABLE_WORDS]));
-    let listed = none.list(&mut shade(), 15, &step());
+    let listed = none.list(&mut shade(), 15, &step(), &mut [100; COUNT_PLACES]);
     assert_eq!((listed.used, listed.done, listed.last.map(|_| ())), (15, 0, fault(Refusal::Table, 0)));
-    let listed = table().list(&mut shade(), usize::MAX, &step());
+    let listed = table().list(&mut shade(), usize::MAX, &step(), &mut [100; COUNT_PLACES]);
     assert_eq!((listed.used, listed.done, listed.last.map(|_| ())), (usize::MAX, 0, fault(Shape, 0)));
+}
+
+/// Counts are written by a check that says valid; any numbers are taken, and an edit does not bring them out of their range.
+#[test]
+fn counts() {
+    let t = table();
+    let mut counts = [-7; COUNT_PLACES];
+    assert_eq!(t.check(&shade(), 14, &mut counts), fault(Refusal::Shape, 0));
+    assert_eq!(counts, [-7; COUNT_PLACES]);
+    assert_eq!(t.elements(&counts, 0), Err(Refusal::Counts));
+    assert_eq!(t.check(&shade(), 15, &mut counts), Ok(()));
+    assert_eq!(counts, counts_of(&SHADE));
+    for (name, due) in [(0, 1), (1, 1), (2, 1), (3, 1), (4, 0), (47, 0), (u32::MAX, 0)] {
+        assert_eq!(t.elements(&counts, name), Ok(due));
+    }
+    let panel = [9, 12, 173, 2];
+    for (panels, due) in [(8_191, Ok(8_192)), (8_192, Err(Refusal::Counts)), (-1, Ok(0)), (-2, Err(Refusal::Counts))] {
+        for (before, due) in [(panels, due), (i32::MAX, Err(Refusal::Counts)), (i32::MIN, Err(Refusal::Counts))] {
+            let (mut doc, mut lent) = (shade(), counts);
+            lent[1] = before;
+            let done = t.edit(&mut doc, 15, Edit::insert(10, &panel), &mut [0; 3], &mut lent).map(|_| ());
+            assert_eq!(done.map_err(|fault| fault.refusal), due.map(|_| ()));
+            assert_eq!(lent[1], due.map_or(before, |panels: i32| panels));
+            assert_eq!(doc == shade(), due.is_err());
+        }
+    }
+    // directly after the sizes and before the judgement, also where none moves
+    counts[47] = 8_193;
+    let mut doc = shade();
+    assert_eq!(t.edit(&mut doc, 15, Edit::set(0, &[4, 69]), &mut [0; 5], &mut counts), fault(Refusal::Counts, 0));
+    assert_eq!(t.edit(&mut doc, 15, Edit::remove(3), &mut [0; 10], &mut counts), fault(Refusal::Counts, 0));
+    assert_eq!(t.edit(&mut doc, 15, Edit::remove(3), &mut [0; 9], &mut counts), fault(Refusal::Room, 0));
+    assert_eq!(t.list(&mut doc, 15, &[2, 10, 0], &mut counts).last.map(|_| ()), fault(Refusal::Counts, 0));
+    assert_eq!(t.elements(&counts, 1), Err(Refusal::Counts));
+    assert_eq!(Table::from_words(Box::new([0; TABLE_WORDS])).elements(&counts, 1), Err(Refusal::Table));
 }
 
 #[test]
@@ -267,12 +316,12 @@ fn comparisons() {
 #[test]
 fn raw_lengths() {
     let t = table();
-    let mut doc = shade();
+    let (mut doc, mut counts) = (shade(), [100; COUNT_PLACES]);
     let given = (1 << 40) + 15;
     // SAFETY: the pointers are those of live slices, with their lengths.
     let r = unsafe {
         let (words, doc, room) = (t.words().as_ptr(), doc.as_mut_ptr(), doc.len());
-        raw::shrike_edit(words, TABLE_WORDS, doc, room, given, 2, 10, [].as_ptr(), 0, [].as_mut_ptr(), 0)
+        raw::shrike_edit(words, TABLE_WORDS, doc, room, given, 2, 10, [].as_ptr(), 0, [].as_mut_ptr(), 0, counts.as_mut_ptr())
     };
     assert_eq!(r, raw::Answer { number: 4, place: 0, used: given, change: 0, children: 0 });
     assert_eq!(doc, shade());

@@ -1,13 +1,14 @@
-//! A host in Rust: loads a schema, a document and edits from the files of a folder, and says in words what comes of each; of an edit that is
-//! done also how the length changed, and at how many children it looked. Then it takes back all that were done, the last one first, and says
-//! whether the document is the first one again. Then it makes the edits of the file as a script step, in one call, which ends at the first that
-//! is refused; and, of the first document, those that were done, and says whether that gives the document of single edits.
+//! A host in Rust: loads a schema, a document and edits from the files of a folder, and says in words what comes of each; of an edit that
+//! is done also how the length changed, and at how many children it looked; and each time how many panels there are. Then it takes back all
+//! that were done, the last one first, and says whether the document is the first one again. Then it makes the edits of the file as a
+//! script step, in one call, which ends at the first that is refused; and, of the first document, those that were done, and says whether
+//! that gives the document of single edits.
 //!
 //!     cargo run -- ../../samples/small-shade
 //!
 //! Ends with 0 once every edit was tried and taken back, and with 1 if the library, a file, the schema or the document is refused, or if the
 //! document is another one after the steps back or after the last list.
-use shrikemuff::{library_version, numbers, read, serves, Edit, Refusal, Table, MOST_BACK, MOST_EDITS, MOST_TOKENS};
+use shrikemuff::{library_version, numbers, read, serves, Counts, Edit, Refusal, Table, COUNT_PLACES, MOST_BACK, MOST_EDITS, MOST_TOKENS};
 use std::fs::File;
 use std::io::Read;
 use std::path::Path;
@@ -72,22 +73,31 @@ struct Document {
     table: Table,
     tokens: Vec<u32>,
     used: usize,
+    counts: Counts,
 }
 
 impl Document {
     /// Makes an edit, and says what comes of it: the edit that takes it back, if it is done.
     fn edit<'b>(&mut self, what: String, edit: Edit<'_>, back: &'b mut [u32]) -> Option<Edit<'b>> {
         let what = format!("{what}, {} at {}", name(edit.operation), edit.place);
-        match self.table.edit(&mut self.tokens, self.used, edit, back) {
+        match self.table.edit(&mut self.tokens, self.used, edit, back, &mut self.counts) {
             Ok(done) => {
                 self.used = done.used;
-                println!("{what}: done, {} tokens, {:+}, looked at {}", done.used, done.change, done.children);
+                println!("{what}: done, {} tokens, {:+}, looked at {}, {}", done.used, done.change, done.children, self.panels());
                 Some(done.back)
             }
             Err(fault) => {
-                println!("{what}: refused, {fault}, {} tokens", self.used);
+                println!("{what}: refused, {fault}, {} tokens, {}", self.used, self.panels());
                 None
             }
+        }
+    }
+
+    /// How many panels there are, in words: element 1 of the small shade.
+    fn panels(&self) -> String {
+        match self.table.elements(&self.counts, 1) {
+            Ok(panels) => format!("panels: {panels}"),
+            Err(refusal) => format!("panels: refused, {refusal}"),
         }
     }
 
@@ -97,12 +107,13 @@ impl Document {
         loop {
             let (list, behind) = left.split_at(left.len().min(MOST_EDITS));
             left = behind;
-            let listed = self.table.list(&mut self.tokens, self.used, &list.concat());
+            let listed = self.table.list(&mut self.tokens, self.used, &list.concat(), &mut self.counts);
             self.used = listed.used;
+            let panels = self.panels();
             let what = format!("list of {} edits, {} done", list.len(), listed.done);
             match listed.last {
-                Ok(last) => println!("{what}: done, {} tokens, {:+}, looked at {}", self.used, last.change, last.children),
-                Err(fault) => println!("{what}: refused, {fault}, {} tokens", self.used),
+                Ok(last) => println!("{what}: done, {} tokens, {:+}, looked at {}, {panels}", self.used, last.change, last.children),
+                Err(fault) => println!("{what}: refused, {fault}, {} tokens, {panels}", self.used),
             }
             if listed.last.is_err() || left.is_empty() {
                 return;
@@ -110,9 +121,21 @@ impl Document {
         }
     }
 
-    /// Whether the document is that one; and says so, or that it stops the program.
-    fn is(&self, other: &[u32], which: &str) -> Result<(), String> {
-        if self.tokens[..self.used] != *other {
+    /// The document as it is now.
+    fn state(&self) -> State {
+        (self.tokens[..self.used].to_vec(), self.counts)
+    }
+
+    /// Takes a document that was kept.
+    fn again(&mut self, (tokens, counts): &State) {
+        self.tokens[..tokens.len()].copy_from_slice(tokens);
+        self.used = tokens.len();
+        self.counts = *counts;
+    }
+
+    /// Whether the document is that one, and its counts are; and says so, or that it stops the program.
+    fn is(&self, other: &State, which: &str) -> Result<(), String> {
+        if self.state() != *other {
             return Err(format!("document: not {which}, {} tokens", self.used));
         }
         println!("document: {which}, {} tokens", self.used);
@@ -121,7 +144,7 @@ impl Document {
 
     /// Makes all edits of a file, and takes back those that were done, the last one first.
     fn there_and_back(&mut self, mut file: &[u8]) -> Result<Made, Refusal> {
-        let mut made = Made::default();
+        let mut made = Made { all: Vec::new(), done: Vec::new(), document: self.state() };
         let mut steps: Vec<(u32, Vec<u32>)> = Vec::new();
         let (mut piece, mut back) = (Vec::new(), vec![0; MOST_BACK]);
         let mut line = 0;
@@ -134,7 +157,7 @@ impl Document {
                 steps.push((line, step.numbers().collect()));
             }
         }
-        made.document = self.tokens[..self.used].to_vec();
+        made.document = self.state();
         while let Some((line, step)) = steps.pop() {
             let edit = Edit::read(&step).expect("the numbers of an edit");
             self.edit(format!("back from edit {line}"), edit, &mut back);
@@ -143,12 +166,14 @@ impl Document {
     }
 }
 
+/// A document's tokens and counts.
+type State = (Vec<u32>, Counts);
+
 /// The edits of a file as numbers, all of them and those that were done, and the document after them.
-#[derive(Default)]
 struct Made {
     all: Vec<Vec<u32>>,
     done: Vec<Vec<u32>>,
-    document: Vec<u32>,
+    document: State,
 }
 
 /// Says what comes of everything; or what stops the program.
@@ -164,16 +189,16 @@ fn run(folder: &Path) -> Result<(), String> {
     let table = Table::translate(&schema).map_err(|refusal| format!("schema: refused, {refusal}"))?;
     let mut tokens = vec![0; MOST_TOKENS];
     let used = read(&document, &mut tokens).map_err(|refusal| format!("document: refused, {refusal}"))?;
-    table.check(&tokens, used).map_err(|fault| format!("check: refused, {fault}, {used} tokens"))?;
-    println!("check: valid, {used} tokens");
+    let mut counts = [0; COUNT_PLACES];
+    table.check(&tokens, used, &mut counts).map_err(|fault| format!("check: refused, {fault}, {used} tokens"))?;
+    let mut document = Document { table, tokens, used, counts };
+    println!("check: valid, {used} tokens, {}", document.panels());
 
-    let first = tokens[..used].to_vec();
-    let mut document = Document { table, tokens, used };
+    let first = document.state();
     let made = document.there_and_back(&edits).map_err(|refusal| format!("edits: refused, {refusal}"))?;
     document.is(&first, "the first one again")?;
     document.script(&made.all);
-    document.tokens[..first.len()].copy_from_slice(&first);
-    document.used = first.len();
+    document.again(&first);
     document.script(&made.done);
     document.is(&made.document, "that of single edits")
 }
