@@ -16,8 +16,8 @@
  * All memory is the caller's: lent for the call, and not kept. No call allocates, none has state, none needs setting up.
  *
  * An array is lent as a pointer and its length in elements (not in bytes), and has that many. It is aligned for its type: 4 bytes for
- * uint32_t and int32_t, 8 for uint64_t. With length 0 nothing is read or written, and the pointer may be anything, NULL too. `counts` alone is lent
- * without a length: it always has SHRIKE_COUNT_PLACES places, of int32_t, and is never NULL.
+ * uint32_t and int32_t, 8 for uint64_t. With length 0 nothing is read or written, and the pointer may be anything, NULL too. `counts` alone
+ * is lent without a length: it always has SHRIKE_COUNT_PLACES places, of int32_t, and is never NULL.
  *
  * An array that a call writes to (a pointer without `const`) overlaps nothing else that is lent to that call.
  *
@@ -137,6 +137,8 @@
  * occur in the model; 1 if no child at all matches, else 0; the sets of occurrences that can be first, and last, bit k for occurrence k,
  * from 0 in reading order; 64 words for the names of the occurrences; 64 words for the sets of those that can come directly after each.
  * Words of no use, and the blocks from E on, are 0. For kinds 0 and 1 everything from n on is 0.
+ * At SHRIKE_FIXED_COUNT_AT stands the number of fixed attributes, and from SHRIKE_FIXED_AT on SHRIKE_MOST_FIXED entries of SHRIKE_FIXED_WORDS
+ * words: element, attribute and value. Entries rise by element and then attribute; those of no use are 0.
  *
  *
  * COUNTS
@@ -169,7 +171,7 @@
  *     10  root: not the schema's                                                                   *      *     *
  *     11  ID twice                                                                                 *      *     *
  *     12  reference to no ID                                                                       *      *     *
- *     13  table: not of 6,626 words, or not proper                                        *        *      *     *       *        *
+ *     13  table: not of 6,675 words, or not proper                                        *        *      *     *       *        *
  *     14  DTD text                                                  *      *      *
  *     15  counts: one below 0 or above 8,192                                                              *     *       *
  *     16  kind not compared                                                                                                      *
@@ -209,6 +211,7 @@ enum {
     SHRIKE_MOST_SYMBOLS = 255,       /* symbols of a model */
     SHRIKE_MOST_NAMES = 64,          /* names that occur in a model */
     SHRIKE_MOST_ATTRIBUTES = 64,     /* attributes of an element; their numbers are below it */
+    SHRIKE_MOST_FIXED = 16,          /* fixed attributes of a schema */
     SHRIKE_MOST_SCHEMA_FILE = 21650, /* bytes of the schema file of a DTD text */
     SHRIKE_MOST_BACK = 8195,         /* numbers of the edit that takes an edit back: three, and its piece */
     SHRIKE_MOST_EDITS = 256          /* edits of a list */
@@ -262,12 +265,14 @@ enum {
 /* Statuses of attributes. */
 enum {
     SHRIKE_REQUIRED = 0,
-    SHRIKE_IMPLIED = 1
+    SHRIKE_IMPLIED = 1,
+    SHRIKE_FIXED = 2
 };
 
-/* The table: its words (of 64 bits: 53,008 bytes), those of a block, where the first block begins, and the places in a block. */
+/* The table: its words (of 64 bits: 53,400 bytes), those of a block, where the first block begins, the places in a block; where the count of
+ * fixed attributes stands, where their entries begin, and the words of an entry. */
 enum {
-    SHRIKE_TABLE_WORDS = 6626,
+    SHRIKE_TABLE_WORDS = 6675,
     SHRIKE_BLOCK_WORDS = 138,
     SHRIKE_BLOCKS_AT = 2,
     SHRIKE_KIND_AT = 0,
@@ -281,7 +286,10 @@ enum {
     SHRIKE_FIRST_AT = 8,
     SHRIKE_LAST_AT = 9,
     SHRIKE_NAMES_AT = 10,
-    SHRIKE_FOLLOW_AT = 74
+    SHRIKE_FOLLOW_AT = 74,
+    SHRIKE_FIXED_COUNT_AT = 6626,
+    SHRIKE_FIXED_AT = 6627,
+    SHRIKE_FIXED_WORDS = 3
 };
 
 /* The places of shrike_compare's sequence buffer, at least (of 32 bits: 17,160 bytes). A sequence that is lost has fewer names. */
@@ -432,21 +440,25 @@ shrike_spot shrike_import_spot(const uint8_t *text, size_t n);
  *     or more and 4 one or more, each before one expression; 5+e the element e, below 5+E. They are exactly one expression, in which at
  *     most 64 names occur;
  *   - the count of attributes, 0 to 64, and for each: its number, 0 to 63, strictly rising; its kind, 0 CDATA, 1 ID, 2 IDREF, 3 IDREFS; its
- *     status, 0 required, 1 implied. At most one is an ID.
+ *     status, 0 required, 1 implied, 2 fixed; and behind status 2 the number of its value, 0 to 65,535. At most one is an ID. A fixed one is
+ *     CDATA, and there are at most 16 in the schema.
+ *
+ * A fixed attribute may be absent. If it is present, it has that value.
  *
  * A model is ambiguous if a child could be meant by two different occurrences of its name, as in (a?, a).
  *
  * Order: `words` (13); then the file from the front, each number's form (1, also where the file ends and a number is due) before its value
- * (2); after a model's symbols, whether they are one expression of at most 64 names (2), then ambiguity (3); bytes left at the end (2). */
+ * (2, for status 2 also if the kind is not CDATA or there are 16 before); after a model's symbols, whether they are one expression of at
+ * most 64 names (2), then ambiguity (3); bytes left at the end (2). */
 uint32_t shrike_translate(const uint8_t *file, size_t file_len, uint64_t *table, size_t words);
 
 /* Checks the document in the first `used` places of `doc`. Valid: `counts` holds how many elements of each name it has, and 0 for names of E
  * and above. Not valid: `counts` keeps its contents.
  *
  * Order: the table (13); shape, and `used` over `room` (4); the root's name (10); then each element by rising place: its attributes (8: each
- * one allowed, all required ones present, one value each unless IDREFS), then its content (9: an empty element has no child and no text, a
- * text-only one has no text or one and no child, one with a model has no text and children that the model describes); then an ID that
- * stands twice (11); then a reference to no ID (12). */
+ * one allowed, all required ones present, one value each unless IDREFS, a fixed one's value the fixed one), then its content (9: an empty
+ * element has no child and no text, a text-only one has no text or one and no child, one with a model has no text and children that the
+ * model describes); then an ID that stands twice (11); then a reference to no ID (12). */
 shrike_verdict shrike_check(const uint64_t *table, size_t words, const uint32_t *doc, size_t room, uint64_t used,
                             int32_t *counts);
 

@@ -1,8 +1,8 @@
 //! Calls drawn by chance from small documents of every mix: the contenders must agree on them too, refusals included.
 
 use bench::calls::{Calls, Counts, Edit};
-use bench::documents::{file, Dice, Mix, MIXES};
-use bench::plain::{BACK, PLACES, WORDS};
+use bench::documents::{file, fixed_captions, Dice, Mix, MIXES};
+use bench::plain::{BACK, FIXED, PLACES, WORDS};
 use bench::texts;
 
 const TOKENS: usize = 420;
@@ -34,12 +34,20 @@ fn same<T: PartialEq>(what: &str, contenders: &[&dyn Calls], run: impl Fn(&dyn C
 }
 
 fn agree_once(contenders: &[&dyn Calls], mix: Mix, dice: &mut Dice) -> Result<(), String> {
-    let mut schema = file(&mix.schema());
+    let is_fixed = mix == Mix::FewIds && dice.below(2) == 0;
+    let (numbers, mut tokens) = if is_fixed { fixed_captions(TOKENS) } else { (mix.schema(), mix.document(TOKENS)) };
+    let mut schema = file(&numbers);
     let mut table = vec![0; WORDS];
     contenders[0].translate(&schema, &mut table);
     if dice.below(4) == 0 {
-        let word = if dice.below(2) == 0 { dice.below(2 + 5 * 138) } else { dice.below(WORDS as u32) };
-        table[word as usize] ^= 1 << dice.below(64);
+        let word = match dice.below(5) {
+            0 => dice.below(WORDS as u32),
+            1 => FIXED as u32 + dice.below(4),
+            2 => FIXED as u32 + dice.below(49),
+            _ => dice.below(2 + 5 * 138),
+        };
+        let bit = if dice.below(2) == 0 { dice.below(4) } else { dice.below(64) };
+        table[word as usize] ^= 1 << bit;
     }
     disturb(&mut schema, dice, |byte, dice| *byte = dice.below(256) as u8);
     same("translate", contenders, |calls| {
@@ -59,7 +67,6 @@ fn agree_once(contenders: &[&dyn Calls], mix: Mix, dice: &mut Dice) -> Result<()
         (calls.compare(&table, &other, element, &mut lent), lent)
     })?;
 
-    let mut tokens = mix.document(TOKENS);
     if dice.below(3) > 0 {
         disturb(&mut tokens, dice, |token, dice| match dice.below(3) {
             0 => *token = dice.below(45 * 8),

@@ -24,6 +24,9 @@ const VALUES: u32 = 65_000;
 const FEW: usize = 8;
 const MANY: usize = 2000;
 
+/// A row in a schema. Attribute kinds: 0 CDATA, 1 ID, 2 IDREF. Status: 0 required, 1 implied.
+const ROW: [u32; 8] = [1, 2, REFERENCE, 2, 1, CAPTION, 0, 1];
+
 #[derive(Clone, Copy, PartialEq, Eq)]
 pub enum Mix {
     FewIds,
@@ -90,8 +93,6 @@ impl Mix {
 
     /// The schema, as the numbers of its file.
     pub fn schema(self) -> Vec<u32> {
-        // Attribute kinds: 0 CDATA, 1 ID, 2 IDREF. Status: 0 required, 1 implied.
-        const ROW: [u32; 8] = [1, 2, REFERENCE, 2, 1, CAPTION, 0, 1];
         match self {
             Mix::FewIds | Mix::ManyIds => [
                 &[4, 0][..],
@@ -292,6 +293,39 @@ pub fn dense_schema() -> Vec<u32> {
         }
     }
     schema
+}
+
+/// The schema at the limits with as many fixed attributes as there may be: attribute 3 of the first elements, which is CDATA.
+pub fn dense_schema_with_fixed() -> Vec<u32> {
+    let dense = dense_schema();
+    let (head, elements) = dense.split_at(2);
+    let mut schema = head.to_vec();
+    for (element, numbers) in elements.chunks_exact(elements.len() / 48).enumerate() {
+        // the attributes stand at the end, three numbers each
+        let (before, status_and_rest) = numbers.split_at(numbers.len() - 3 * (64 - 3) + 2);
+        schema.extend(before);
+        match element {
+            0..=15 => schema.extend([2, element as u32]),
+            _ => schema.push(status_and_rest[0]),
+        }
+        schema.extend(&status_and_rest[1..]);
+    }
+    schema
+}
+
+/// The schema of few and of many IDs with the captions of rows fixed, and a document of few IDs that keeps to it.
+pub fn fixed_captions(size: usize) -> (Vec<u32>, Vec<u32>) {
+    const VALUE: u32 = 5;
+    let mut schema = Mix::FewIds.schema();
+    let row = schema.windows(ROW.len()).position(|numbers| numbers == ROW).expect("a row");
+    schema.splice(row + ROW.len() - 1..row + ROW.len(), [2, VALUE]);
+    let mut tokens = Mix::FewIds.document(size);
+    for place in 2..tokens.len() {
+        if tokens[place - 2] == token(2, 1) && tokens[place - 1] == token(CAPTION, 4) {
+            tokens[place] = token(VALUE, 5);
+        }
+    }
+    (schema, tokens)
 }
 
 /// The small shade with (panel, panel?, use*) in place of (panel+, use*).

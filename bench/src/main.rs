@@ -206,6 +206,9 @@ fn cases_of_files() -> Vec<Case> {
     cases.push(translate("schema at the limits", &documents::dense_schema()));
     let dense = Input::Check { table: Rc::new(table_of(&documents::dense_schema())), buffer: vec![0; 2], used: 0, number: 4, text: None };
     cases.push(Case::new(Section::File, "schema at the limits", "test of the table alone", 0, dense));
+    let most_fixed = Rc::new(table_of(&documents::dense_schema_with_fixed()));
+    let most_fixed = Input::Check { table: most_fixed, buffer: vec![0; 2], used: 0, number: 4, text: None };
+    cases.push(Case::new(Section::File, "schema at the limits, 16 fixed attributes", "test of the table alone", 0, most_fixed));
     cases.extend(small_and_bare());
     cases.extend(comparisons());
     cases.extend(imports());
@@ -233,12 +236,16 @@ fn cases_of_files() -> Vec<Case> {
     cases
 }
 
-/// The paper's small document, and large ones with no ID: each checked, and an insert with the remove that takes it back.
+/// The paper's small document, and large ones with no ID and with fixed captions: each checked, and an insert with the remove that takes it
+/// back.
 fn small_and_bare() -> Vec<Case> {
     let bare = documents::no_ids(EDIT_TOKENS);
     let bare_pair = Mix::Depth64.pairs(&bare, SPOTS[0]).swap_remove(0);
     let mut cases = judged("small shade", &documents::SMALL_SHADE, &documents::SMALL_DOCUMENT, documents::small_pair());
     cases.extend(judged("no ID", &Mix::Depth64.schema(), &bare, bare_pair));
+    let (schema, fixed) = documents::fixed_captions(EDIT_TOKENS);
+    let fixed_pair = Mix::FewIds.pairs(&fixed, SPOTS[0]).swap_remove(0);
+    cases.extend(judged("fixed captions", &schema, &fixed, fixed_pair));
     cases
 }
 
@@ -316,6 +323,8 @@ fn method(plan: &Plan, report: &Report, inputs: usize, by_chance: u64) -> String
     for mix in MIXES {
         text += &format!("- {}: {}.\n", mix.name(), mix.about());
     }
+    text += "- fixed captions: few IDs, the captions of rows fixed to one value, which every second row has (libxml2 adds it to the others when \
+             it parses).\n";
     text += &format!(
         "\n## How it was measured\n\n\
          - Core: the archive's eleven calls through C. Plain: a straightforward safe Rust version of the same calls with the same promises \

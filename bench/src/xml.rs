@@ -22,7 +22,11 @@ pub fn doctype(schema: &[u32]) -> String {
         for _ in 0..next() {
             let attribute = next();
             let kind = ["CDATA", "ID", "IDREF", "IDREFS"][next() as usize];
-            let status = ["#REQUIRED", "#IMPLIED"][next() as usize];
+            let status = match next() {
+                0 => "#REQUIRED".to_string(),
+                1 => "#IMPLIED".to_string(),
+                _ => format!("#FIXED \"v{}\"", next()),
+            };
             writeln!(text, "<!ATTLIST e{} a{} {} {}>", element, attribute, kind, status).unwrap();
         }
     }

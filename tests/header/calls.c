@@ -44,7 +44,7 @@ static shrike_compared (*const compare)(const uint64_t *, size_t, const uint64_t
 
 /* ---- the small shade */
 
-#define TABLE 6626
+#define TABLE 6675
 #define PLACES 40
 #define FILLED 0xfeedu
 static const uint64_t OVER = UINT64_C(1) << 32;
@@ -499,6 +499,60 @@ static void counts(void) {
     BYTES(table, before, sizeof table);
 }
 
+/* ---- fixed attributes: element 0 has element 1 any number of times; both have attribute 3, fixed to 7 and to 65,535 */
+
+static void fixed(void) {
+    static const uint8_t house[] = {2, 0, 2, 2, 3, 6, 2, 3, 0, 2, 7, 4, 0, 1, 0, 1, 3, 0, 2, 255, 255, 3};
+    static const uint8_t not_cdata[] = {1, 0, 0, 1, 3, 1, 2, 7}, over[] = {1, 0, 0, 1, 3, 0, 2, 128, 128, 4};
+    static const uint8_t ended[] = {1, 0, 0, 1, 3, 0, 2};
+    static const uint64_t entries[] = {2, 0, 3, 7, 1, 3, 65535, 0, 0, 0};
+    static const uint32_t doc[] = {1, 28, 61, 36, 69, 9, 28, 524285, 2, 9, 2, 2}, other[] = {1, 28, 69, 2};
+    static const uint32_t wrong_child[] = {1, 9, 28, 61, 2, 2};
+    static const uint32_t seven[] = {28, 61}, eight[] = {28, 69};
+    static const struct {
+        size_t word;
+        uint64_t value;
+    } damage[] = {{0, 17}, {0, 1}, {0, 3}, {1, 1}, {1, 2}, {2, 5}, {2, 64}, {3, 65536}, {4, 0}, {5, 2}, {7, 1}, {48, 1}};
+    static uint64_t house_table[TABLE];
+    uint32_t lent[PLACES], back[PLACES];
+    uint8_t many[4 + 4 * 17] = {1, 0, 0};
+    SAME("number", translate(not_cdata, sizeof not_cdata, house_table, TABLE), 2);
+    SAME("number", translate(over, sizeof over, house_table, TABLE), 2);
+    SAME("number", translate(ended, sizeof ended, house_table, TABLE), 1);
+    for (uint8_t n = 16; n <= 17; n++) {
+        many[3] = n;
+        for (uint8_t i = 0; i < n; i++) many[4 + 4 * i] = i, many[5 + 4 * i] = 0, many[6 + 4 * i] = 2, many[7 + 4 * i] = 9;
+        SAME("number", translate(many, 4 + 4 * (size_t)n, house_table, TABLE), n == 16 ? 0 : 2);
+    }
+    SAME("last entry's value", house_table[TABLE - 1], 9);
+    SAME("number", translate(house, sizeof house, house_table, TABLE), 0);
+    BYTES(house_table + 6626, entries, sizeof entries);
+    SAME("last word", house_table[TABLE - 1], 0);
+    /* absent, or with its value */
+    JUDGED(check(house_table, TABLE, doc, 12, 12, hundreds()), 0, 0);
+    JUDGED(check(house_table, TABLE, other, 4, 4, hundreds()), 8, 0);
+    JUDGED(check(house_table, TABLE, wrong_child, 6, 6, hundreds()), 8, 1);
+    fill(lent, doc, 12);
+    ANSWERED(edit(house_table, TABLE, lent, PLACES, 12, 4, 0, eight, 2, back, PLACES, hundreds()), 8, 0, 12, 0, 0);
+    ANSWERED(edit(house_table, TABLE, lent, PLACES, 12, 4, 9, seven, 2, back, PLACES, hundreds()), 8, 9, 12, 0, 0);
+    ANSWERED(edit(house_table, TABLE, lent, PLACES, 12, 4, 0, seven, 2, back, PLACES, hundreds()), 0, 0, 12, 0, 2);
+    ANSWERED(edit(house_table, TABLE, lent, PLACES, 12, 5, 0, seven, 1, back, PLACES, hundreds()), 0, 0, 10, -2, 2);
+    /* not proper: the count, entries that do not rise, name what is not allowed, not CDATA or required, a value too large, words of no use */
+    for (size_t i = 0; i < sizeof damage / sizeof *damage; i++) {
+        uint64_t kept = house_table[6626 + damage[i].word];
+        house_table[6626 + damage[i].word] = damage[i].value;
+        JUDGED(check(house_table, TABLE, doc, 12, 12, hundreds()), 13, 0);
+        COUNTED(elements(house_table, TABLE, hundreds(), 0), 13, 0);
+        house_table[6626 + damage[i].word] = kept;
+    }
+    for (size_t set = 2; set <= 5; set++) {
+        house_table[2 + set] ^= 8;
+        JUDGED(check(house_table, TABLE, doc, 12, 12, hundreds()), 13, 0);
+        house_table[2 + set] ^= 8;
+    }
+    JUDGED(check(house_table, TABLE, doc, 12, 12, hundreds()), 0, 0);
+}
+
 /* ---- two tables: the small shade, and with (use, use, panel)? in place of (panel+, use*) */
 
 #define SEQUENCE 4290
@@ -601,6 +655,7 @@ int main(void) {
     steps_back();
     lists();
     counts();
+    fixed();
     comparisons();
     if (!lengths()) return 1;
     return told();

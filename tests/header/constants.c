@@ -125,6 +125,11 @@ static void kinds_of_attributes(void) {
     attribute(SHRIKE_ID, SHRIKE_IMPLIED, SHRIKE_DONE, SHRIKE_ID_TWICE, SHRIKE_ATTRIBUTES);
     attribute(SHRIKE_IDREF, SHRIKE_REQUIRED, SHRIKE_ATTRIBUTES, SHRIKE_NO_ID, SHRIKE_ATTRIBUTES);
     attribute(SHRIKE_IDREFS, SHRIKE_IMPLIED, SHRIKE_DONE, SHRIKE_NO_ID, SHRIKE_NO_ID);
+    SCHEMA(SHRIKE_DONE, 1, 0, SHRIKE_EMPTY, 1, 7, SHRIKE_CDATA, SHRIKE_FIXED, 9);
+    DOCUMENT(SHRIKE_DONE, 0, S(0), E);
+    DOCUMENT(SHRIKE_DONE, 0, S(0), A(7), V(9), E);
+    DOCUMENT(SHRIKE_ATTRIBUTES, 0, S(0), A(7), V(8), E);
+    SCHEMA(SHRIKE_SCHEMA, 1, 0, SHRIKE_EMPTY, 1, 7, SHRIKE_ID, SHRIKE_FIXED, 9);
 }
 
 /* A list of numbers, made from its front. */
@@ -160,6 +165,12 @@ static uint32_t with_attributes(uint32_t n) {
     return schema(numbers, made);
 }
 
+static uint32_t with_fixed(uint32_t n) {
+    begin(), put(1, 1), put(0, 1), put(SHRIKE_EMPTY, 1), put(n, 1);
+    for (uint32_t i = 0; i < n; i++) put(i, 1), put(SHRIKE_CDATA, 1), put(SHRIKE_FIXED, 1), put(100 + i, 1);
+    return schema(numbers, made);
+}
+
 /* The limits of a schema: taken at the limit, and not past it. */
 static void limits_of_schemas(void) {
     SAME("most elements", with_elements(SHRIKE_MOST_ELEMENTS), SHRIKE_DONE);
@@ -170,6 +181,14 @@ static void limits_of_schemas(void) {
     SAME("one name more", with_names(SHRIKE_MOST_NAMES + 1), SHRIKE_SCHEMA);
     SAME("most attributes", with_attributes(SHRIKE_MOST_ATTRIBUTES), SHRIKE_DONE);
     SAME("one attribute more", with_attributes(SHRIKE_MOST_ATTRIBUTES + 1), SHRIKE_SCHEMA);
+    SAME("one fixed attribute more", with_fixed(SHRIKE_MOST_FIXED + 1), SHRIKE_SCHEMA);
+    SAME("most fixed attributes", with_fixed(SHRIKE_MOST_FIXED), SHRIKE_DONE);
+    SAME("their count", table[SHRIKE_FIXED_COUNT_AT], SHRIKE_MOST_FIXED);
+    for (uint32_t i = 0; i < SHRIKE_MOST_FIXED; i++) {
+        const uint64_t entry[] = {0, i, 100 + i};
+        BYTES(table + SHRIKE_FIXED_AT + i * SHRIKE_FIXED_WORDS, entry, sizeof entry);
+    }
+    SAME("words behind them", SHRIKE_FIXED_AT + SHRIKE_MOST_FIXED * SHRIKE_FIXED_WORDS, SHRIKE_TABLE_WORDS);
     SCHEMA(SHRIKE_DONE, 1, 0, SHRIKE_EMPTY, 1, SHRIKE_MOST_ATTRIBUTES - 1, SHRIKE_CDATA, SHRIKE_IMPLIED);
     SCHEMA(SHRIKE_SCHEMA, 1, 0, SHRIKE_EMPTY, 1, SHRIKE_MOST_ATTRIBUTES, SHRIKE_CDATA, SHRIKE_IMPLIED);
 }

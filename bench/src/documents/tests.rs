@@ -1,6 +1,7 @@
 //! The inputs are what they are said to be, by the plain version.
 
-use super::{dense_schema, file, with_last_element_wrong, with_other_root, MIXES, SMALL_SHADE, SPOTS};
+use super::{dense_schema, dense_schema_with_fixed, file, fixed_captions, with_last_element_wrong, with_other_root};
+use super::{Mix, MIXES, SMALL_SHADE, SPOTS};
 use crate::calls::Calls;
 use crate::plain::{Keys, Plain, BACK, WORDS};
 use crate::steps::{numbers, Step};
@@ -17,6 +18,11 @@ fn table(schema: &[u32]) -> Vec<u64> {
 #[test]
 fn schemas_are_taken() {
     table(&SMALL_SHADE);
+    let fixed = table(&dense_schema_with_fixed());
+    assert_eq!((fixed[6626], &fixed[6672..]), (16, &[15, 3, 15][..]));
+    let (schema, tokens) = fixed_captions(8184);
+    assert_eq!(PLAIN.check(&table(&schema), &tokens, 8184, &mut [0; 48]).number, 0);
+    assert_eq!(PLAIN.check(&table(&schema), &Mix::FewIds.document(8184), 8184, &mut [0; 48]).number, 8);
     let dense = table(&dense_schema());
     assert!((0..48).all(|element| dense[2 + element * 138 + 6] == 64));
     assert!(file(&dense_schema()).len() <= 65_536);

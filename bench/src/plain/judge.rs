@@ -37,13 +37,14 @@ pub fn judge(table: Table, tokens: &[u32], touched: impl Iterator<Item = usize>,
 
 fn judge_element(table: Table, tokens: &[u32], ends: &[u32], start: usize) -> Result<usize, Fault> {
     let element = table.element(number(tokens[start])).ok_or_else(|| Fault::at(7, start))?;
-    let content = judge_attributes(element, tokens, start + 1).map_err(|number| Fault::at(number, start))?;
+    let content = judge_attributes(table, element, tokens, start).map_err(|number| Fault::at(number, start))?;
     judge_content(element, tokens, ends, content).map_err(|place| Fault::at(9, place))
 }
 
 /// The place after the attributes, if they are good.
-fn judge_attributes(element: Element, tokens: &[u32], mut at: usize) -> Result<usize, u32> {
+fn judge_attributes(table: Table, element: Element, tokens: &[u32], start: usize) -> Result<usize, u32> {
     let mut present = 0;
+    let mut at = start + 1;
     while sort(tokens[at]) == ATTRIBUTE {
         let attribute = number(tokens[at]);
         if attribute > 63 || element.allowed() >> attribute & 1 == 0 {
@@ -52,6 +53,9 @@ fn judge_attributes(element: Element, tokens: &[u32], mut at: usize) -> Result<u
         present |= 1u64 << attribute;
         let values = tokens[at + 1..].iter().take_while(|&&token| sort(token) == VALUE).count();
         if values > 1 && element.idrefs() >> attribute & 1 == 0 {
+            return Err(8);
+        }
+        if table.fixed(number(tokens[start]), attribute).map_or(false, |value| value != number(tokens[at + 1])) {
             return Err(8);
         }
         at += 1 + values;

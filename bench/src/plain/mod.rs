@@ -22,7 +22,7 @@ use crate::calls::{Answer, Calls, Compared, Count, Counts, Listed, Spot, Verdict
 pub use compare::PLACES;
 pub use edits::spliced;
 pub use keys::Keys;
-pub use table::WORDS;
+pub use table::{FIXED, WORDS};
 
 /// Most tokens of a document or a piece.
 pub const TOKENS: usize = 8192;

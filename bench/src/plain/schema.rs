@@ -2,12 +2,16 @@
 
 use super::model::Model;
 use super::numbers::Numbers;
-use super::table::{at, BLOCK, ELEMENTS, MODEL, WORDS};
+use super::table::{at, Table, BLOCK, ELEMENTS, FIXED, MODEL, MOST_FIXED, WORDS};
 
 const CDATA: u32 = 0;
 const ID: u32 = 1;
 const IDREF: u32 = 2;
 const IDREFS: u32 = 3;
+
+const REQUIRED: u32 = 0;
+const IMPLIED: u32 = 1;
+const FIXED_STATUS: u32 = 2;
 
 /// Fills a table of its own and copies it out: a refusal must leave `table` as it was.
 pub fn translate(file: &[u8], table: &mut [u64]) -> Result<(), u32> {
@@ -20,9 +24,10 @@ pub fn translate(file: &[u8], table: &mut [u64]) -> Result<(), u32> {
     let root = within(numbers.next()?, 0, elements - 1)?;
     made[0] = u64::from(elements);
     made[1] = u64::from(root);
-    for block in made[2..].chunks_exact_mut(BLOCK).take(elements as usize) {
-        content(&mut numbers, elements, block)?;
-        attributes(&mut numbers, block)?;
+    for element in 0..elements {
+        let begin = 2 + element as usize * BLOCK;
+        content(&mut numbers, elements, &mut made[begin..begin + BLOCK])?;
+        attributes(&mut numbers, element, &mut made)?;
     }
     if !numbers.is_at_end() {
         return Err(2);
@@ -64,23 +69,31 @@ fn content(numbers: &mut Numbers, elements: u32, block: &mut [u64]) -> Result<()
     Ok(())
 }
 
-fn attributes(numbers: &mut Numbers, block: &mut [u64]) -> Result<(), u32> {
+fn attributes(numbers: &mut Numbers, element: u32, words: &mut [u64]) -> Result<(), u32> {
+    let begin = 2 + element as usize * BLOCK;
     let count = within(numbers.next()?, 0, 64)?;
     let mut least = 0;
     for _ in 0..count {
         let attribute = within(numbers.next()?, least, 63)?;
         least = attribute + 1;
         let bit = 1u64 << attribute;
+        let block = &mut words[begin..begin + BLOCK];
         block[at::ALLOWED] |= bit;
-        match numbers.next()? {
+        let kind = numbers.next()?;
+        match kind {
             CDATA => {}
             ID if block[at::ID] == 0 => block[at::ID] = bit,
             IDREF => block[at::IDREF] |= bit,
             IDREFS => block[at::IDREFS] |= bit,
             _ => return Err(2),
         }
-        if within(numbers.next()?, 0, 1)? == 0 {
-            block[at::REQUIRED] |= bit;
+        match numbers.next()? {
+            REQUIRED => block[at::REQUIRED] |= bit,
+            IMPLIED => {}
+            FIXED_STATUS if kind == CDATA && words[FIXED] < MOST_FIXED as u64 => {
+                Table::add_fixed(words, element, attribute, within(numbers.next()?, 0, 65_535)?)
+            }
+            _ => return Err(2),
         }
     }
     Ok(())

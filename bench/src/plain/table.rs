@@ -5,7 +5,11 @@ use super::model::one_of_each;
 
 pub const ELEMENTS: usize = 48;
 pub const BLOCK: usize = 138;
-pub const WORDS: usize = 2 + ELEMENTS * BLOCK;
+/// Behind the blocks: the count of fixed attributes, and entries of element, attribute and value.
+pub const FIXED: usize = 2 + ELEMENTS * BLOCK;
+pub const MOST_FIXED: usize = 16;
+const ENTRY: usize = 3;
+pub const WORDS: usize = FIXED + 1 + MOST_FIXED * ENTRY;
 
 pub const EMPTY: u64 = 0;
 pub const TEXT: u64 = 1;
@@ -42,13 +46,52 @@ impl<'a> Table<'a> {
         if elements < 1 || elements > ELEMENTS as u64 || root >= elements {
             return None;
         }
-        let (used, unused) = words[2..].split_at(elements as usize * BLOCK);
+        let (used, unused) = words[2..FIXED].split_at(elements as usize * BLOCK);
         let proper = used.chunks_exact(BLOCK).all(|block| Element { block }.is_proper(elements)) && all_zero(unused);
-        if proper {
-            Some(Table { words })
+        let table = Table { words };
+        if proper && table.has_proper_entries() {
+            Some(table)
         } else {
             None
         }
+    }
+
+    /// The entries of fixed attributes rise, and each names an attribute that may be fixed.
+    fn has_proper_entries(&self) -> bool {
+        let count = self.words[FIXED];
+        if count > MOST_FIXED as u64 {
+            return false;
+        }
+        let (entries, no_entries) = self.words[FIXED + 1..].split_at(count as usize * ENTRY);
+        let mut before = None;
+        let proper = entries.chunks_exact(ENTRY).all(|entry| {
+            let rises = before < Some((entry[0], entry[1]));
+            before = Some((entry[0], entry[1]));
+            rises && self.may_be_fixed(entry[0], entry[1]) && entry[2] <= 65_535
+        });
+        proper && all_zero(no_entries)
+    }
+
+    fn may_be_fixed(&self, element: u64, attribute: u64) -> bool {
+        let element = if element < self.words[0] { self.element(element as u32) } else { None };
+        element.map_or(false, |element| {
+            let others = element.required() | element.id() | element.idref() | element.idrefs();
+            attribute < 64 && (element.allowed() & !others) >> attribute & 1 == 1
+        })
+    }
+
+    /// The value to which an attribute of an element is fixed, if it is.
+    pub fn fixed(&self, element: u32, attribute: u32) -> Option<u32> {
+        let entries = self.words[FIXED + 1..].chunks_exact(ENTRY).take(self.words[FIXED] as usize);
+        let mut alike = entries.filter(|entry| entry[0] == u64::from(element) && entry[1] == u64::from(attribute));
+        alike.next().map(|entry| entry[2] as u32)
+    }
+
+    /// Adds an entry, for which there is room.
+    pub fn add_fixed(words: &mut [u64], element: u32, attribute: u32, value: u32) {
+        let at = FIXED + 1 + words[FIXED] as usize * ENTRY;
+        words[at..at + ENTRY].copy_from_slice(&[u64::from(element), u64::from(attribute), u64::from(value)]);
+        words[FIXED] += 1;
     }
 
     pub fn elements(&self) -> u32 {

@@ -136,6 +136,33 @@ fn a_run_of_edits() {
     }
 }
 
+/// A fixed attribute may be absent, and has its value if it is present.
+#[test]
+fn fixed_attributes() {
+    let plain = Plain { keys: Keys::Field };
+    let mut table = vec![0; WORDS];
+    assert_eq!(plain.translate(&[2, 0, 2, 2, 3, 6, 1, 3, 0, 2, 7, 0, 1, 3, 0, 2, 9], &mut table), 0);
+    assert_eq!(table[6626..6634], [2, 0, 3, 7, 1, 3, 9, 0]);
+    let checked = |table: &[u64], tokens: &[u32]| {
+        let verdict = plain.check(table, tokens, tokens.len() as u64, &mut [0; 48]);
+        (verdict.number, verdict.place)
+    };
+    assert_eq!(checked(&table, &[1, 28, 61, 9, 28, 77, 2, 9, 2, 2]), (0, 0));
+    assert_eq!(checked(&table, &[1, 28, 77, 2]), (8, 0));
+    assert_eq!(checked(&table, &[1, 9, 28, 61, 2, 2]), (8, 1));
+    for (word, value) in [(0, 17), (0, 1), (0, 3), (1, 1), (1, 2), (2, 4), (2, 64), (3, 65_536), (4, 0), (7, 1), (48, 1)] {
+        let mut damaged = table.clone();
+        damaged[6626 + word] = value;
+        assert_eq!(checked(&damaged, &[1, 2]), (13, 0), "word {} is {}", word, value);
+    }
+    let translated = |file: &[u8]| plain.translate(file, &mut vec![0; WORDS]);
+    assert_eq!(translated(&[1, 0, 0, 1, 3, 2, 2, 7]), 2);
+    assert_eq!(translated(&[1, 0, 0, 1, 3, 0, 2, 128, 128, 4]), 2);
+    assert_eq!(translated(&[1, 0, 0, 1, 3, 0, 2]), 1);
+    let fixed = |count: u8| [vec![1, 0, 0, count], (0..count).flat_map(|number| [number, 0, 2, 7]).collect()].concat();
+    assert_eq!((translated(&fixed(16)), translated(&fixed(17))), (0, 2));
+}
+
 /// Counts are written by a check, asked for, and kept in their range.
 #[test]
 fn counts() {

@@ -16,6 +16,7 @@ pub const MOST_ELEMENTS: usize = 48;
 pub const MOST_SYMBOLS: usize = 255;
 pub const MOST_NAMES: usize = 64;
 pub const MOST_ATTRIBUTES: usize = 64;
+pub const MOST_FIXED: usize = 16;
 pub const MOST_SCHEMA_FILE: usize = 21_650;
 pub const MOST_BACK: usize = 8_195;
 pub const MOST_EDITS: usize = 256;
@@ -50,9 +51,11 @@ pub const IDREFS: u32 = 3;
 // Statuses of attributes.
 pub const REQUIRED: u32 = 0;
 pub const IMPLIED: u32 = 1;
+pub const FIXED: u32 = 2;
 
-// The table: its words (of 64 bits: 53,008 bytes), those of a block, where the first block begins, and the places in a block.
-pub const TABLE_WORDS: usize = 6_626;
+// The table: its words (of 64 bits: 53,400 bytes), those of a block, where the first block begins, the places in a block; where the count of
+// fixed attributes stands, where their entries begin, and the words of an entry.
+pub const TABLE_WORDS: usize = 6_675;
 pub const BLOCK_WORDS: usize = 138;
 pub const BLOCKS_AT: usize = 2;
 pub const KIND_AT: usize = 0;
@@ -67,6 +70,9 @@ pub const FIRST_AT: usize = 8;
 pub const LAST_AT: usize = 9;
 pub const NAMES_AT: usize = 10;
 pub const FOLLOW_AT: usize = 74;
+pub const FIXED_COUNT_AT: usize = 6_626;
+pub const FIXED_AT: usize = 6_627;
+pub const FIXED_WORDS: usize = 3;
 
 // The places of the sequence buffer of a comparison, at least.
 pub const SEQUENCE_PLACES: usize = 4_290;

@@ -84,6 +84,45 @@ fn schemas() {
     assert_eq!(Table::translate(&[2, 0, 2, 4, 0, 2, 6, 6, 0, 0, 0]), Err(Refusal::Ambiguous));
 }
 
+/// An empty element with two attributes, of which the first is fixed: it may be absent, or has its value.
+#[test]
+fn fixed_attributes() {
+    use shrikemuff::numbers::{CDATA, EMPTY, FIXED, FIXED_AT, FIXED_COUNT_AT, IDREFS, IMPLIED, MOST_FIXED};
+    let translated = |numbers: &[u32]| {
+        let mut file = [0; 99];
+        let length = write(numbers, &mut file).unwrap();
+        Table::translate(&file[..length])
+    };
+    let t = translated(&[1, 0, EMPTY, 2, 5, CDATA, FIXED, 65_535, 9, CDATA, IMPLIED]).unwrap();
+    assert_eq!(t.words()[FIXED_COUNT_AT..FIXED_AT + 6], [1, 0, 5, 65_535, 0, 0, 0]);
+    let checked = |tokens: &[u32]| t.check(tokens, tokens.len(), &mut [100; COUNT_PLACES]);
+    let with = |value| [token::start(0), token::attribute(5), token::value(value), token::end()];
+    assert_eq!(checked(&[token::start(0), token::end()]), Ok(()));
+    assert_eq!(checked(&with(65_535)), Ok(()));
+    assert_eq!(checked(&with(65_534)), fault(Refusal::Attributes, 0));
+    let (mut doc, mut back, mut counts) = ([BEHIND; 8], [BEHIND; 8], [1; COUNT_PLACES]);
+    doc[..4].copy_from_slice(&with(65_535));
+    let set = |value| [token::attribute(5), token::value(value)];
+    assert_eq!(t.edit(&mut doc, 4, Edit::set(0, &set(0)), &mut back, &mut counts), fault(Refusal::Attributes, 0));
+    let done = t.edit(&mut doc, 4, Edit::drop(0, &set(0)[..1]), &mut back, &mut counts).unwrap();
+    assert_eq!((done.used, done.back), (2, Edit::set(0, &set(65_535))));
+    // in the file: another kind, a value too large, one too many; in the table: an entry too many, or that is no entry
+    assert_eq!(translated(&[1, 0, EMPTY, 1, 5, IDREFS, FIXED, 7]), Err(Refusal::Schema));
+    assert_eq!(translated(&[1, 0, EMPTY, 1, 5, CDATA, FIXED, 65_536]), Err(Refusal::Schema));
+    assert_eq!(translated(&[1, 0, EMPTY, 1, 5, CDATA, FIXED]), Err(Refusal::Broken));
+    for count in [MOST_FIXED as u32, MOST_FIXED as u32 + 1] {
+        let attributes = (0..count).flat_map(|number| [number, CDATA, FIXED, 7]);
+        let numbers: Vec<u32> = [1, 0, EMPTY, count].into_iter().chain(attributes).collect();
+        assert_eq!(translated(&numbers).is_ok(), count == MOST_FIXED as u32);
+    }
+    for (word, value) in [(0, 17), (0, 0), (0, 2), (1, 1), (2, 4), (2, 64), (3, 65_536), (4, 1), (48, 1)] {
+        let mut words = Box::new(*t.words());
+        words[FIXED_COUNT_AT + word] = value;
+        let verdict = Table::from_words(words).check(&with(65_535), 4, &mut [100; COUNT_PLACES]);
+        assert_eq!(verdict, fault(Refusal::Table, 0), "word {word} is {value}");
+    }
+}
+
 #[test]
 fn checks() {
     let doc = shade();
