@@ -1,10 +1,11 @@
 /* shrikemuff.h: small XML documents, held as tokens, kept to their schema.
  *
- * Eleven calls: a document file is read into tokens and written from them; a DTD's text becomes a schema file, its names are listed, and the
+ * Twelve calls: a document file is read into tokens and written from them; a DTD's text becomes a schema file, its names are listed, and the
  * spot is told at which it is refused; a schema file is translated to a table; a document is checked by a table; a document is edited, and
  * stays as it was unless the edited document keeps to the schema, and each edit that is done tells the one that takes it back; a script
- * step, a list of edits, is made in one call; the numbers of elements, which checks, edits and lists keep beside a document, are asked for;
- * two tables are compared, whether the new one takes what the old one takes in an element. A twelfth tells the library's version.
+ * step, a list of edits, is made in one call, and a group of edits, such as a rename, is made as one edit; the numbers of elements, which
+ * checks, edits and lists keep beside a document, are asked for; two tables are compared, whether the new one takes what the old one takes
+ * in an element. A thirteenth tells the library's version.
  * Link libshrikemuff.a. ISO C99, and C++; Linux on x86-64.
  *
  * What each call answers, and what it leaves in every place of the memory lent to it, is proved of the source that the library is compiled
@@ -22,7 +23,8 @@
  * An array that a call writes to (a pointer without `const`) overlaps nothing else that is lent to that call.
  *
  * A refused call leaves everything lent as it was; of a list of edits this holds for the edit that is refused, and what was done before it
- * stands. Apart from this nothing is asked: any bytes, numbers and lengths get an answer.
+ * stands; the second buffer of a group is written once its first edit has begun. Apart from this nothing is asked: any bytes, numbers and
+ * lengths get an answer.
  *
  * Calls may run in several threads at once, as long as no array that one of them writes to is lent to another. A table that is written
  * once may serve all threads.
@@ -38,6 +40,7 @@
  *     shrike_check                    under 42,000
  *     shrike_edit                     under 75,000
  *     shrike_list                     under 225,000
+ *     shrike_group                    under 110,000
  *     shrike_elements                 under 5,000
  *     shrike_compare                  under 57,000
  *
@@ -149,7 +152,7 @@
  *
  * A check that says valid writes true counts. Edits and lists carry them along: an edit that is done moves them by what comes less what goes,
  * and looks at nothing else for it. So true counts stay true, whether an edit is done or refused, and are always those that a fresh check
- * would write. A host that changes a document in any other way checks it before the next edit or list.
+ * would write. A host that changes a document in any other way, as by a group, checks it before the next edit or list.
  *
  * Counts that are not true are taken too, whatever they hold. Sums are exact. An edit after which one of them would be below 0 or above 8,192
  * is refused (15), also one that moves none; true counts never meet this.
@@ -157,24 +160,24 @@
  *
  * ANSWERS
  *
- *                                                   read  write  import  names  spot  translate  check  edit  list  elements  compare
- *      0  valid, or done                              *     *       *      *      *       *        *      *     *       *        *
+ *                                                   read  write  import  names  spot  translate  check  edit  list  group  elements  compare
+ *      0  valid, or done                              *     *       *      *      *       *        *      *     *     *        *        *
  *      1  broken number                               *                                   *
  *      2  schema value, form or limit                               *      *      *       *
  *      3  ambiguous model                                                                 *
- *      4  no shape, or bad piece                            *                                      *      *     *
- *      5  too large, or no room                       *     *       *      *                              *     *                *
- *      6  operation, place or element                                                                     *     *                *
+ *      4  no shape, or bad piece                            *                                      *      *     *     *
+ *      5  too large, or no room                       *     *       *      *                              *     *     *                 *
+ *      6  operation, place or element                                                                     *     *     *                 *
  *      7  name: the element is not declared                                                               *     *
- *      8  attributes                                                                               *      *     *
- *      9  content                                                                                  *      *     *
- *     10  root: not the schema's                                                                   *      *     *
- *     11  ID twice                                                                                 *      *     *
- *     12  reference to no ID                                                                       *      *     *
- *     13  table: not of 6,675 words, or not proper                                        *        *      *     *       *        *
+ *      8  attributes                                                                               *      *     *     *
+ *      9  content                                                                                  *      *     *     *
+ *     10  root: not the schema's                                                                   *      *     *     *
+ *     11  ID twice                                                                                 *      *     *     *
+ *     12  reference to no ID                                                                       *      *     *     *
+ *     13  table: not of 6,675 words, or not proper                                        *        *      *     *     *        *        *
  *     14  DTD text                                                  *      *      *
- *     15  counts: one below 0 or above 8,192                                                              *     *       *
- *     16  kind not compared                                                                                                      *
+ *     15  counts: one below 0 or above 8,192                                                              *     *              *
+ *     16  kind not compared                                                                                                             *
  *
  * A call gives the first that applies, in the order that stands with it. shrike_words(number) says an answer in words.
  *
@@ -214,7 +217,7 @@ enum {
     SHRIKE_MOST_FIXED = 16,          /* fixed attributes of a schema */
     SHRIKE_MOST_SCHEMA_FILE = 21650, /* bytes of the schema file of a DTD text */
     SHRIKE_MOST_BACK = 8195,         /* numbers of the edit that takes an edit back: three, and its piece */
-    SHRIKE_MOST_EDITS = 256          /* edits of a list */
+    SHRIKE_MOST_EDITS = 256          /* edits of a list, or of a group */
 };
 
 /* Sorts of tokens. */
@@ -395,6 +398,15 @@ typedef struct {
     uint32_t done;
 } shrike_listed;
 
+/* The answer of shrike_group. used, change: as in shrike_answer, of the whole group. which: the edit that was refused, from 1; 0 if none
+ * was. */
+typedef struct {
+    uint32_t number, place;
+    uint64_t used;
+    int32_t change;
+    uint32_t which;
+} shrike_grouped;
+
 /* The answer of shrike_compare. takes_all: 1 if the new table takes all that the old one takes, else 0. length: the names of the sequence
  * that is lost; 0 if none is. A refusal gives 0 for both. */
 typedef struct {
@@ -521,6 +533,28 @@ shrike_answer shrike_edit(const uint64_t *table, size_t words, uint32_t *doc, si
  * over 8,192 tokens that is all there is its edit's 4. */
 shrike_listed shrike_list(const uint64_t *table, size_t words, uint32_t *doc, size_t room, uint64_t used, const uint32_t *list, size_t n,
                           int32_t *counts);
+
+/* Makes the edits of a list as one, where each alone would not keep to the schema: a rename changes an ID and its references. Each edit is
+ * tested for form, place and size alone, on what those before it made; only the last document is judged, whole. From a valid document a group
+ * of edits that pass these tests is done exactly if the last document is valid.
+ *
+ * The list is 1 to 256 edits, as shrike_list has it. So the small shade's panel 20 becomes 21, with the use that refers to it, by
+ *
+ *     4 3 2 12 173    4 10 2 20 173
+ *
+ * The edits are worked on `second`, which has at least `room` places; what it holds before is of no account. Once an edit has begun, it holds
+ * the last document reached, then 0 up to the longest reached, the starting one included; later places keep their contents.
+ *
+ * Done: `doc` holds the last document, then 0 up to the old length; later places keep their contents. Refused: nothing is written to `doc`.
+ * A group carries no counts along: after one that is done, a check writes them before the next edit or list. No step back is written: a host
+ * that is to take a group back keeps a copy of the document.
+ *
+ * Order: the table (13); shape, and `used` over `room` (4); the list, as shrike_list has it (4 and 5); `second_room` below `room` (5); all
+ * this before any edit. Then the first edit that is refused, with `which`, and place 0: operation (6), the piece (4), `place` (6), the result
+ * over 8,192 tokens, over 64 deep or over `room` (5). Then the last document with its place, in the order of shrike_check: the root's name
+ * (10), attributes (8) and content (9), IDs (11), references (12). */
+shrike_grouped shrike_group(const uint64_t *table, size_t words, uint32_t *doc, size_t room, uint64_t used, const uint32_t *list, size_t n,
+                            uint32_t *second, size_t second_room);
 
 /* How many elements of a name the document has, by its counts: 0 for a name of E and above, whatever the counts hold there.
  *

@@ -1,4 +1,4 @@
-//! The eleven calls and their answers, as every contender of the benchmark offers them.
+//! The twelve calls and their answers, as every contender of the benchmark offers them.
 
 #[derive(Clone, Copy, Debug, PartialEq, Eq)]
 pub struct Count {
@@ -34,6 +34,15 @@ pub struct Listed {
 }
 
 #[derive(Clone, Copy, Debug, PartialEq, Eq)]
+pub struct Grouped {
+    pub number: u32,
+    pub place: u32,
+    pub used: u64,
+    pub change: i32,
+    pub which: u32,
+}
+
+#[derive(Clone, Copy, Debug, PartialEq, Eq)]
 pub struct Compared {
     pub number: u32,
     pub takes_all: u32,
@@ -65,7 +74,8 @@ impl Edit {
 }
 
 /// What the core and the plain version both do. A buffer is the whole slice; `used` says how much of it is the document. An edit writes the
-/// one that takes it back into `back`. The counts of a document are lent beside it.
+/// one that takes it back into `back`. The counts of a document are lent beside it. A group is worked on
+/// `second`.
 pub trait Calls {
     fn name(&self) -> &'static str;
     fn read(&self, file: &[u8], tokens: &mut [u32]) -> Count;
@@ -88,6 +98,7 @@ pub trait Calls {
         counts: &mut Counts,
     ) -> Answer;
     fn list(&self, table: &[u64], buffer: &mut [u32], used: u64, list: &[u32], counts: &mut Counts) -> Listed;
+    fn group(&self, table: &[u64], buffer: &mut [u32], used: u64, list: &[u32], second: &mut [u32]) -> Grouped;
     fn elements(&self, table: &[u64], counts: &Counts, name: u32) -> Count;
     fn compare(&self, old: &[u64], new: &[u64], element: u32, sequence: &mut [u32]) -> Compared;
 }

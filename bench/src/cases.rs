@@ -4,6 +4,7 @@ use bench::calls::{Answer, Calls, Compared, Count, Counts, Edit, Spot, Verdict};
 use bench::plain::{Keys, Plain, BACK, PLACES, WORDS};
 use std::rc::Rc;
 
+use crate::groups::{self, GroupInput};
 #[cfg(feature = "libxml2")]
 use crate::libxml2;
 use crate::lists::{Left, ListInput};
@@ -72,6 +73,8 @@ pub enum Input {
     },
     /// A list of edits that are all done, and the one that takes it back.
     List(ListInput),
+    /// A group of edits that is done, and the one that takes it back.
+    Group(GroupInput),
     /// From the files of schema and document to a judged document: translate, read and check; `text` is both as XML.
     Load {
         schema: Vec<u8>,
@@ -94,6 +97,7 @@ struct Outcome {
     bytes: Vec<u8>,
     table: Vec<u64>,
     left: Option<Left>,
+    grouped: Option<groups::Left>,
     elements: Vec<Counts>,
 }
 
@@ -132,6 +136,7 @@ impl Input {
             Input::Load { text, .. } => libxml2::load(text),
             Input::Import { text, taken: true, .. } => libxml2::import(text),
             Input::List(input) => input.agrees_with_libxml2(),
+            Input::Group(input) => input.agrees_with_libxml2(),
             _ => true,
         };
         if agrees {
@@ -220,6 +225,10 @@ impl Input {
                 outcome.left = Some(input.left(calls)?);
                 true
             }
+            Input::Group(input) => {
+                outcome.grouped = Some(input.left(calls)?);
+                true
+            }
             Input::Load { schema, file, tokens, .. } => {
                 let (mut table, mut buffer) = (vec![7; WORDS], vec![7; *tokens]);
                 outcome.verdicts.push(load(calls, schema, file, &mut table, &mut buffer));
@@ -248,6 +257,7 @@ impl Input {
     fn job<'a>(&'a self, calls: &'a dyn Calls) -> Job<'a> {
         match self {
             Input::List(_) => unreachable!("a list has jobs of its own"),
+            Input::Group(input) => input.job(calls),
             Input::Check { table, buffer, used, number, .. } => {
                 let mut counts = NO_COUNTS;
                 Box::new(move |count| {
@@ -325,6 +335,7 @@ impl Input {
                 Some(Box::new(move |count| repeat_pair(count, &mut trees, |trees| step(trees, 0), |trees| step(trees, 1))))
             }
             Input::Load { text, .. } => Some(Box::new(move |count| repeat(count, || assert!(libxml2::load(text))))),
+            Input::Group(input) => Some(input.libxml2_job()),
             Input::Import { text, taken: true, .. } => Some(Box::new(move |count| repeat(count, || assert!(libxml2::import(text))))),
             _ => None,
         }

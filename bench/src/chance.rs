@@ -16,7 +16,7 @@ pub fn agree(contenders: &[&dyn Calls], count: u32) -> Result<u64, String> {
         let mut dice = Dice::new(k as u64 + 7);
         for round in 0..count {
             agree_once(contenders, mix, &mut dice).map_err(|what| format!("{}, round {}: {}", mix.name(), round, what))?;
-            calls += 11;
+            calls += 12;
         }
     }
     Ok(calls)
@@ -96,6 +96,12 @@ fn agree_once(contenders: &[&dyn Calls], mix: Mix, dice: &mut Dice) -> Result<()
     same("list", contenders, |calls| {
         let (mut lent, mut counts) = (buffer.clone(), counts);
         (calls.list(&table, &mut lent, used, &list, &mut counts), lent, counts)
+    })?;
+
+    let room = buffer.len() + dice.below(8) as usize - dice.below(8) as usize / 7;
+    same("group", contenders, |calls| {
+        let (mut lent, mut second) = (buffer.clone(), vec![8; room]);
+        (calls.group(&table, &mut lent, used, &list, &mut second), lent, second)
     })?;
 
     let mut bytes = file(&tokens);

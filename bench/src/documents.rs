@@ -189,6 +189,23 @@ impl Mix {
         })
     }
 
+    /// Changes an ID that is referred to, and all its references, to a new value: each edit alone would be refused.
+    pub fn rename(self, tokens: &[u32]) -> Vec<Edit> {
+        let reference = tokens.iter().position(|&t| t == token(REFERENCE, 4)).expect("a reference");
+        let old = tokens[reference + 1];
+        let mut edits = Vec::new();
+        let mut start = 0;
+        for place in 0..tokens.len() - 1 {
+            if tokens[place] & 7 == 1 {
+                start = place;
+            }
+            if (tokens[place] == token(ID, 4) || tokens[place] == token(REFERENCE, 4)) && tokens[place + 1] == old {
+                edits.push(Edit { operation: SET, place: start as u64, piece: vec![tokens[place], token(FRESH, 5)] });
+            }
+        }
+        edits
+    }
+
     /// The five edits, all done on the valid document, each with the one that takes it back.
     pub fn pairs(self, tokens: &[u32], spot: Spot) -> Vec<Pair> {
         let at = self.place(tokens, spot);

@@ -3,6 +3,7 @@
 
 mod cases;
 mod chance;
+mod groups;
 #[cfg(feature = "libxml2")]
 mod libxml2;
 mod lists;
@@ -18,6 +19,7 @@ use bench::steps::Step;
 use bench::texts;
 use bench::xml;
 use cases::Input;
+use groups::GroupInput;
 use lists::ListInput;
 use report::{grouped, Report, Row, Section, SIZES};
 use std::path::PathBuf;
@@ -174,6 +176,13 @@ fn cases_of(mix: Mix) -> Vec<Case> {
         let input = Input::List(ListInput::new(table.clone(), buffer.clone(), EDIT_TOKENS as u64, step, texts));
         cases.push(Case::new(Section::List, name, &edits.to_string(), EDIT_TOKENS, input));
     }
+    let rename = Step::of_sets(&tokens, mix.rename(&tokens));
+    let spread = Step::spread(mix, &table, &tokens, ROOM, LISTS[2]);
+    for (what, step) in [("rename", rename), ("small edits", spread)] {
+        let what = format!("{}: {}", what, step.there.len());
+        let input = Input::Group(GroupInput::new(table.clone(), buffer.clone(), EDIT_TOKENS as u64, step, text_of(&tokens)));
+        cases.push(Case::new(Section::Group, name, &what, EDIT_TOKENS, input));
+    }
     cases
 }
 
@@ -327,7 +336,7 @@ fn method(plan: &Plan, report: &Report, inputs: usize, by_chance: u64) -> String
              it parses).\n";
     text += &format!(
         "\n## How it was measured\n\n\
-         - Core: the archive's eleven calls through C. Plain: a straightforward safe Rust version of the same calls with the same promises \
+         - Core: the archive's twelve calls through C. Plain: a straightforward safe Rust version of the same calls with the same promises \
          (`bench/src/plain`), IDs compared in pairs; the second one marks them in a field of 65,536 bits and is the same otherwise. \
          Both are compiled with optimisation 3; the archive is not optimised across its border. Checks, edits and lists keep the counts of elements, in \
          all three.\n\
@@ -343,6 +352,7 @@ fn method(plan: &Plan, report: &Report, inputs: usize, by_chance: u64) -> String
          - A list and the one that takes it back take turns on one buffer, and so do their single calls and libxml2's changes; the time is that \
          of both, for each edit. Before timing, each list was compared with its single calls, and libxml2's tree behind the changes with the \
          tree of the edited document.\n\
+         - A group and the one that takes it back take turns in the same way; the time is that of one of them.\n\
          - The documents that are edited have {} tokens, so that an insert fits into {}.\n",
         inputs,
         grouped(by_chance as usize),

@@ -45,6 +45,7 @@ pub enum Section {
     File,
     Hostile,
     List,
+    Group,
 }
 
 /// What was timed, and the times of each who did it.
@@ -110,7 +111,7 @@ impl Report<'_> {
     fn limited(&self) -> impl Iterator<Item = &Row> {
         self.rows.iter().filter(|row| match row.section {
             Section::Check => SIZES.contains(&row.tokens) || row.tokens == self.edit_tokens,
-            Section::Edit | Section::File => true,
+            Section::Edit | Section::File | Section::Group => true,
             Section::CheckPart | Section::EditPart | Section::Hostile | Section::List => false,
         })
     }
@@ -132,6 +133,7 @@ impl Report<'_> {
         self.checks(&mut text);
         self.edits(&mut text);
         self.lists(&mut text);
+        self.groups(&mut text);
         self.files(&mut text);
         self.hostile(&mut text);
         self.parts(&mut text);
@@ -144,7 +146,11 @@ impl Report<'_> {
         limit(text, &format!("an edit costs at most {} whole checks of the same document", MOST_CHECKS), MOST_CHECKS, edits);
         let calls = |plain| self.limited().map(move |row| (row.ratio(Who::Core, plain), row));
         limit(text, &format!("every call within {} × plain, which compares IDs in pairs", MOST_PLAIN), MOST_PLAIN, calls(Who::Plain));
-        let judged = calls(Who::Field).filter(|(_, row)| row.section != Section::File || JUDGED.contains(&row.what.as_str()));
+        let is_judged = |row: &Row| match row.section {
+            Section::File => JUDGED.contains(&row.what.as_str()),
+            section => section != Section::Group,
+        };
+        let judged = calls(Who::Field).filter(|(_, row)| is_judged(row));
         limit(text, &format!("every check and edit within {} × plain with a bit field", MOST_FIELD), MOST_FIELD, judged);
         let hostile = self.section(Section::Hostile).map(|row| (row.median(Who::Core).map(|ns| ns / MOST_HOSTILE), row));
         for (wide, most, words) in [(false, MOST_SINGLE, "a tenth"), (true, MOST_SINGLE_WIDE, "a third")] {
@@ -246,6 +252,33 @@ impl Report<'_> {
         text.push_str(
             "of 8,192 tokens, moved with them, and the law that a run goes on from an occurrence alike wherever it came from.\n\n",
         );
+    }
+
+    fn groups(&self, text: &mut String) {
+        writeln!(text, "## Groups of edits at {} tokens\n", grouped(self.edit_tokens)).unwrap();
+        text.push_str(
+            "Microseconds a group that is done. Rename: an ID that is referred to and all its references get another value. Small edits: ",
+        );
+        text.push_str("those of the longest list above. \"Checks\": the core's group in the core's whole checks of the same document. libxml2: the changes of ");
+        text.push_str("its tree, and whole validation once behind them; a group that is refused, it would have to take back.\n\n");
+        text.push_str("| mix | edits | core | plain | plain, bit field | libxml2 | core/plain | core/bit field | libxml2/core | checks | within 1.5 × plain |\n");
+        text.push_str("|---|---|--:|--:|--:|--:|--:|--:|--:|--:|---|\n");
+        for row in self.section(Section::Group) {
+            writeln!(
+                text,
+                "| {} | {} | {} | {} | {} | {} | {} | {} |",
+                row.mix,
+                row.what,
+                self.times(row),
+                decimal(row.ratio(Who::Core, Who::Plain), 2),
+                decimal(row.ratio(Who::Core, Who::Field), 2),
+                decimal(row.ratio(Who::Libxml2, Who::Core), 1),
+                decimal(self.in_checks(row, Who::Core), 2),
+                kept(row.ratio(Who::Core, Who::Plain), MOST_PLAIN),
+            )
+            .unwrap();
+        }
+        text.push('\n');
     }
 
     fn hostile(&self, text: &mut String) {

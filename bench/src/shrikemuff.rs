@@ -1,7 +1,7 @@
 //! The core, through its C interface.
 
 use ::shrikemuff::raw;
-use bench::calls::{Answer, Calls, Compared, Count, Counts, Listed, Spot, Verdict};
+use bench::calls::{Answer, Calls, Compared, Count, Counts, Grouped, Listed, Spot, Verdict};
 
 pub struct Core;
 
@@ -71,6 +71,13 @@ impl Calls for Core {
         let (words, room, n, counts) = (table.len(), buffer.len(), list.len(), counts.as_mut_ptr());
         let said = unsafe { raw::shrike_list(table.as_ptr(), words, buffer.as_mut_ptr(), room, used, list.as_ptr(), n, counts) };
         Listed { last: answer(said.last), done: said.done }
+    }
+
+    fn group(&self, table: &[u64], buffer: &mut [u32], used: u64, list: &[u32], second: &mut [u32]) -> Grouped {
+        let (words, room, n, second_room) = (table.len(), buffer.len(), list.len(), second.len());
+        let (table, doc, list, second) = (table.as_ptr(), buffer.as_mut_ptr(), list.as_ptr(), second.as_mut_ptr());
+        let said = unsafe { raw::shrike_group(table, words, doc, room, used, list, n, second, second_room) };
+        Grouped { number: said.number, place: said.place, used: said.used, change: said.change, which: said.which }
     }
 
     fn elements(&self, table: &[u64], counts: &Counts, name: u32) -> Count {

@@ -2,7 +2,7 @@
 
 use crate::calls::{Calls, Counts, Edit, DROP, INSERT, REMOVE, REPLACE, SET};
 use crate::documents::{Dice, Mix};
-use crate::plain::{Keys, Plain, BACK};
+use crate::plain::{spliced, Keys, Plain, BACK};
 
 /// The edits of a step in turn: the document is never more than one item longer than at first.
 const TURN: [u32; 5] = [INSERT, REMOVE, SET, DROP, REPLACE];
@@ -30,11 +30,16 @@ impl Step {
         step
     }
 
-    /// These edits, which are all done.
-    pub fn of(table: &[u64], tokens: &[u32], room: usize, edits: Vec<Edit>) -> Step {
+    /// Sets of values of attributes that are there, which need not be valid one by one.
+    pub fn of_sets(tokens: &[u32], there: Vec<Edit>) -> Step {
         let mut step = Step { there: Vec::new(), back: Vec::new(), tokens: tokens.to_vec() };
-        for edit in edits {
-            assert!(step.make(table, room, edit), "an edit of a step is done");
+        for edit in there {
+            let after = spliced(&step.tokens, &edit);
+            let changed = (0..after.len()).find(|&place| after[place] != step.tokens[place]).expect("another value");
+            let piece = vec![edit.piece[0], step.tokens[changed]];
+            step.back.push(Edit { piece, ..edit });
+            step.there.push(edit);
+            step.tokens = after;
         }
         step.back.reverse();
         step

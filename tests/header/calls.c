@@ -23,6 +23,12 @@ HOLDS(answer_children_at_20, offsetof(shrike_answer, children) == 20);
 HOLDS(listed_is_32, sizeof(shrike_listed) == 32);
 HOLDS(listed_last_at_0, offsetof(shrike_listed, last) == 0);
 HOLDS(listed_done_at_24, offsetof(shrike_listed, done) == 24);
+HOLDS(grouped_is_24, sizeof(shrike_grouped) == 24);
+HOLDS(grouped_number_at_0, offsetof(shrike_grouped, number) == 0);
+HOLDS(grouped_place_at_4, offsetof(shrike_grouped, place) == 4);
+HOLDS(grouped_used_at_8, offsetof(shrike_grouped, used) == 8);
+HOLDS(grouped_change_at_16, offsetof(shrike_grouped, change) == 16);
+HOLDS(grouped_which_at_20, offsetof(shrike_grouped, which) == 20);
 HOLDS(compared_is_12, sizeof(shrike_compared) == 12);
 HOLDS(compared_number_at_0, offsetof(shrike_compared, number) == 0);
 HOLDS(compared_takes_all_at_4, offsetof(shrike_compared, takes_all) == 4);
@@ -39,6 +45,8 @@ static shrike_verdict (*const check)(const uint64_t *, size_t, const uint32_t *,
 static shrike_answer (*const edit)(const uint64_t *, size_t, uint32_t *, size_t, uint64_t, uint32_t, uint64_t, const uint32_t *, size_t,
                                    uint32_t *, size_t, int32_t *) = shrike_edit;
 static shrike_listed (*const list)(const uint64_t *, size_t, uint32_t *, size_t, uint64_t, const uint32_t *, size_t, int32_t *) = shrike_list;
+static shrike_grouped (*const group)(const uint64_t *, size_t, uint32_t *, size_t, uint64_t, const uint32_t *, size_t, uint32_t *,
+                                    size_t) = shrike_group;
 static shrike_count (*const elements)(const uint64_t *, size_t, const int32_t *, uint32_t) = shrike_elements;
 static shrike_compared (*const compare)(const uint64_t *, size_t, const uint64_t *, size_t, uint32_t, uint32_t *, size_t) = shrike_compare;
 
@@ -499,6 +507,63 @@ static void counts(void) {
     BYTES(table, before, sizeof table);
 }
 
+/* ---- groups: the panel 20 becomes 21, and what refers to it */
+
+static void groups(void) {
+    static const uint32_t rename[] = {4, 3, 2, 12, 173, 4, 10, 2, 20, 173};
+    static const uint32_t renamed[] = {1, 4, 61, 9, 12, 173, 17, 243, 2, 2, 25, 20, 173, 2, 2};
+    static const uint32_t over_19[] = {1, 10, 4, 9, 12, 165, 2, 2, 3, 0}, no_place[] = {1, 10, 4, 9, 12, 165, 2, 2, 19, 0};
+    static const uint32_t shorter[] = {1, 4, 61, 9, 12, 165, 2, 25, 20, 165, 2, 2, 0, 0, 0, 0, 0, 0, 0};
+    static const uint32_t longer[] = {1, 4, 61, 9, 12, 165, 17, 243, 2, 2, 9, 12, 165, 2, 25, 20, 165, 2, 2};
+    enum { RENAME = 10, BEGUN = 5, LONGER = 19, SHORTER = 12 };
+    uint32_t doc[PLACES], due[PLACES], second[PLACES], second_due[PLACES], many[3 * (MOST + 1)];
+    fill(doc, shade, SHADE);
+    fill(due, shade, SHADE);
+    fill(second, NULL, 0);
+    fill(second_due, NULL, 0);
+    /* refused before any edit: nothing is written. The table, shape, the list, the second buffer */
+    for (size_t i = 0; i < 3 * (MOST + 1); i++) many[i] = 0;
+    GROUPED(group(table, TABLE - 1, doc, PLACES, OVER + 1, NULL, 0, NULL, 0), 13, 0, OVER + 1, 0, 0);
+    GROUPED(group(table, TABLE, doc, PLACES, OVER + SHADE, NULL, 0, NULL, 0), 4, 0, OVER + SHADE, 0, 0);
+    GROUPED(group(table, TABLE, doc, SHADE - 1, SHADE, many, 3 * (MOST + 1), NULL, 0), 4, 0, SHADE, 0, 0);
+    GROUPED(group(table, TABLE, doc, PLACES, SHADE, NULL, 0, NULL, 0), 4, 0, SHADE, 0, 0);
+    GROUPED(group(table, TABLE, doc, PLACES, SHADE, rename, RENAME - 1, second, PLACES), 4, 0, SHADE, 0, 0);
+    GROUPED(group(table, TABLE, doc, PLACES, SHADE, many, 3 * MOST + 1, NULL, 0), 5, 0, SHADE, 0, 0);
+    GROUPED(group(table, TABLE, doc, PLACES, SHADE, rename, RENAME, second, PLACES - 1), 5, 0, SHADE, 0, 0);
+    BYTES(second, second_due, sizeof second);
+    /* an edit that is refused, from 1 on; the second buffer has the document that was reached, and 0 up to the longest */
+    fill(second_due, shade, SHADE);
+    GROUPED(group(table, TABLE, doc, PLACES, SHADE, many, 3 * MOST, second, PLACES), 6, 0, SHADE, 0, 1);
+    BYTES(second, second_due, sizeof second);
+    fill(second_due, longer, LONGER);
+    GROUPED(group(table, TABLE, doc, PLACES, SHADE, no_place, RENAME, second, PLACES), 6, 0, SHADE, 0, 2);
+    BYTES(second, second_due, sizeof second);
+    /* the size is the first buffer's */
+    fill(second_due, shade, SHADE);
+    fill(second, NULL, 0);
+    GROUPED(group(table, TABLE, doc, LONGER - 1, SHADE, over_19, RENAME, second, PLACES), 5, 0, SHADE, 0, 1);
+    BYTES(second, second_due, sizeof second);
+    /* the last document's fault: each step of the rename alone */
+    GROUPED(group(table, TABLE, doc, PLACES, SHADE, rename, BEGUN, second, PLACES), 12, 12, SHADE, 0, 0);
+    GROUPED(group(table, TABLE, doc, PLACES, SHADE, rename + BEGUN, BEGUN, second, PLACES), 12, 12, SHADE, 0, 0);
+    GROUPED(group(table, TABLE, doc, PLACES, SHADE, over_19, 7, second, PLACES), 11, 12, SHADE, 0, 0);
+    BYTES(doc, due, sizeof doc);
+    /* done: the rename; and what is longer on the way */
+    fill(due, renamed, SHADE);
+    fill(second, NULL, 0);
+    GROUPED(group(table, TABLE, doc, SHADE, SHADE, rename, RENAME, second, SHADE), 0, 0, SHADE, 0, 0);
+    BYTES(doc, due, sizeof doc);
+    BYTES(second, due, sizeof second);
+    fill(doc, shade, SHADE);
+    fill(due, shorter, SHADE);
+    fill(second, NULL, 0);
+    fill(second_due, shorter, LONGER);
+    GROUPED(group(table, TABLE, doc, PLACES, SHADE, over_19, RENAME, second, PLACES), 0, 0, SHORTER, -3, 0);
+    BYTES(doc, due, sizeof doc);
+    BYTES(second, second_due, sizeof second);
+    BYTES(table, before, sizeof table);
+}
+
 /* ---- fixed attributes: element 0 has element 1 any number of times; both have attribute 3, fixed to 7 and to 65,535 */
 
 static void fixed(void) {
@@ -638,6 +703,11 @@ static int lengths(void) {
     ANSWERED(edit(table, TABLE, doc, PLACES, SHADE, 2, 10, tokens, OVER, back, OVER, hundreds()), 4, 0, SHADE, 0, 0);
     memcpy(tokens, no_operations, sizeof no_operations);
     LISTED(list(table, TABLE, doc, PLACES, SHADE, tokens, OVER, hundreds()), 5, 0, SHADE, 0, 0, 0);
+    GROUPED(group(table, TABLE, doc, PLACES, SHADE, tokens, OVER, back, OVER), 5, 0, SHADE, 0, 0);
+    memcpy(tokens, shade, sizeof shade);
+    GROUPED(group(table, TABLE, tokens, OVER, SHADE, step, STEP, back, OVER), 0, 0, 8, -7, 0);
+    BYTES(tokens, back, (SHADE + PANEL) * sizeof *back);
+    GROUPED(group(words, OVER + TABLE, tokens, OVER, 8, step, STEP, back, OVER), 13, 0, 8, 0, 0);
     memcpy(tokens, shade, sizeof shade);
     LISTED(list(table, TABLE, tokens, OVER, SHADE, step, STEP, hundreds()), 0, 0, 8, -7, 1, 3);
     LISTED(list(words, OVER + TABLE, tokens, OVER, 8, step, STEP, hundreds()), 13, 0, 8, 0, 0, 0);
@@ -655,6 +725,7 @@ int main(void) {
     steps_back();
     lists();
     counts();
+    groups();
     fixed();
     comparisons();
     if (!lengths()) return 1;

@@ -66,6 +66,14 @@ static inline void listed(int line, shrike_listed r, uint32_t number, uint32_t p
     same(line, "done", r.done, done);
 }
 
+static inline void grouped(int line, shrike_grouped r, uint32_t number, uint32_t place, uint64_t used, int32_t change, uint32_t which) {
+    same(line, "number", r.number, number);
+    same(line, "place", r.place, place);
+    same(line, "used", r.used, used);
+    same(line, "change", (uint64_t)(int64_t)r.change, (uint64_t)(int64_t)change);
+    same(line, "which", r.which, which);
+}
+
 static inline void compared_as(int line, shrike_compared r, uint32_t number, uint32_t takes_all, uint32_t length) {
     same(line, "number", r.number, number);
     same(line, "takes_all", r.takes_all, takes_all);
@@ -77,6 +85,7 @@ static inline void compared_as(int line, shrike_compared r, uint32_t number, uin
 #define JUDGED(call, number, place) judged(__LINE__, call, number, place)
 #define ANSWERED(call, number, place, used, change, children) answered(__LINE__, call, number, place, used, change, children)
 #define LISTED(call, number, place, used, change, children, done) listed(__LINE__, call, number, place, used, change, children, done)
+#define GROUPED(call, number, place, used, change, which) grouped(__LINE__, call, number, place, used, change, which)
 #define COMPARED(call, number, takes_all, length) compared_as(__LINE__, call, number, takes_all, length)
 #define SAME(what, got, due) same(__LINE__, what, got, due)
 #define BYTES(got, due, n) bytes_same(__LINE__, got, due, n)

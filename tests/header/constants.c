@@ -342,6 +342,24 @@ static void lists(void) {
     LISTED(titles(0), SHRIKE_SHAPE, 0, LENGTH(shade), 0, 0, 0);
 }
 
+/* The answer to a group, worked on the second half of a buffer. */
+static shrike_grouped renamed(const uint32_t *list, size_t n) {
+    static uint32_t both[2 * LENGTH(shade)];
+    memcpy(both, shade, sizeof shade);
+    return shrike_group(table, SHRIKE_TABLE_WORDS, both, LENGTH(shade), LENGTH(shade), list, n, both + LENGTH(shade), LENGTH(shade));
+}
+
+static void groups(void) {
+    static const uint32_t rename[] = {SHRIKE_SET, 3, 2, A(1), V(21), SHRIKE_SET, 10, 2, A(2), V(21), SHRIKE_REMOVE, 0, 0};
+    GROUPED(renamed(rename, 5), SHRIKE_NO_ID, 12, LENGTH(shade), 0, 0);
+    GROUPED(renamed(rename, 10), SHRIKE_DONE, 0, LENGTH(shade), 0, 0);
+    GROUPED(renamed(rename, 13), SHRIKE_PLACE, 0, LENGTH(shade), 0, 3);
+    titles(SHRIKE_MOST_EDITS);
+    GROUPED(renamed(numbers, made), SHRIKE_DONE, 0, LENGTH(shade), 0, 0);
+    titles(SHRIKE_MOST_EDITS + 1);
+    GROUPED(renamed(numbers, made), SHRIKE_ROOM, 0, LENGTH(shade), 0, 0);
+}
+
 /* A check writes as many counts as there are, and no more; the last one is asked for. */
 static void kept_counts(void) {
     const uint32_t last = SHRIKE_COUNT_PLACES - 1;
@@ -438,6 +456,7 @@ int main(void) {
     tables();
     operations();
     lists();
+    groups();
     kept_counts();
     steps_back();
     answers();

@@ -63,6 +63,12 @@ shrike_listed shrike_list(const uint64_t *table, size_t words, uint32_t *doc, si
     return (void)table, (void)words, (void)doc, (void)room, (void)list, (void)n, (void)counts, r;
 }
 
+shrike_grouped shrike_group(const uint64_t *table, size_t words, uint32_t *doc, size_t room, uint64_t used, const uint32_t *list, size_t n,
+                            uint32_t *second, size_t second_room) {
+    shrike_grouped r = {answer("group"), 0, used, 0, 0};
+    return (void)table, (void)words, (void)doc, (void)room, (void)list, (void)n, (void)second, (void)second_room, r;
+}
+
 shrike_count shrike_elements(const uint64_t *table, size_t words, const int32_t *counts, uint32_t name) {
     shrike_count r = {answer("elements"), 0};
     return (void)table, (void)words, (void)counts, (void)name, r;

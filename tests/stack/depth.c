@@ -108,6 +108,16 @@ static void *steps(void *answer) {
     return answer;
 }
 
+/* A group of the same edits. */
+static void *groups(void *answer) {
+    static const uint32_t list[] = {2, 1, 0, 1, 1, 2, 1 * 8 + 1, 2, 3, 1, 2, 1 * 8 + 1, 2, 1, 3, 2, 1 * 8 + 1, 2, 2, 3, 0};
+    static uint32_t second[SHRIKE_MOST_TOKENS];
+    shrike_grouped r = shrike_group(table, SHRIKE_TABLE_WORDS, doc, SHRIKE_MOST_TOKENS, used, list, sizeof list / sizeof *list, second,
+                                    SHRIKE_MOST_TOKENS);
+    *(uint32_t *)answer = r.number;
+    return answer;
+}
+
 static void *asks(void *answer) {
     shrike_count r = shrike_elements(table, SHRIKE_TABLE_WORDS, counts, 0);
     *(uint32_t *)answer = r.number;
@@ -182,6 +192,8 @@ int main(void) {
     told("shrike_edit", edits);
     used += 2;
     told("shrike_list", steps);
+    used -= 2;
+    told("shrike_group", groups);
     told("shrike_elements", asks);
     told("shrike_compare", compares);
     return wrong;

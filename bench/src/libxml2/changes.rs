@@ -1,6 +1,6 @@
 //! A script step on a tree of libxml2: each edit is a change of the tree by nodes that are at hand, and a validation behind it.
 
-use super::{xmlValidateDocument, Tree};
+use super::Tree;
 use bench::calls::{Edit, DROP, INSERT, REMOVE, REPLACE};
 use bench::plain::spliced;
 use std::ffi::{c_void, CString};
@@ -88,6 +88,14 @@ impl Script {
         self.run(&self.there, by) && self.run(&self.back, by)
     }
 
+    /// Makes the step and takes it back, with one validation of the whole document behind each. True if both say valid.
+    pub fn there_and_back_as_groups(&mut self) -> bool {
+        [&self.there, &self.back].iter().all(|changes| {
+            changes.iter().for_each(|change| self.make(change));
+            self.tree.is_valid()
+        })
+    }
+
     /// The text of the tree behind the step, which is taken back.
     pub fn text_behind(&mut self) -> Vec<u8> {
         self.there.iter().for_each(|change| self.make(change));
@@ -101,7 +109,7 @@ impl Script {
             let touched = self.touched(change);
             self.make(change);
             match by {
-                Validation::Whole => unsafe { xmlValidateDocument(self.tree.context, self.tree.document) == 1 },
+                Validation::Whole => self.tree.is_valid(),
                 Validation::Parent => touched.into_iter().all(|node| self.is_valid_alone(node)),
             }
         })

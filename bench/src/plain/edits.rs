@@ -9,10 +9,10 @@ use super::{Fault, DEPTH, TOKENS};
 use crate::calls::{Answer, Counts, Edit, DROP, INSERT, REMOVE, REPLACE, SET};
 
 /// What an edit does: `cut` tokens from `at` on give way to `put`. `touched` is the element around it, none for the root itself.
-struct Splice<'a> {
-    at: usize,
-    cut: usize,
-    put: &'a [u32],
+pub struct Splice<'a> {
+    pub at: usize,
+    pub cut: usize,
+    pub put: &'a [u32],
     touched: Option<usize>,
 }
 
@@ -73,17 +73,8 @@ fn made(
 ) -> Result<(usize, usize), Fault> {
     let table = Table::proper(words).ok_or(13u32)?;
     let tokens = shape::document(buffer, used).ok_or(4u32)?;
-    if !(INSERT..=DROP).contains(&operation) {
-        return Err(6.into());
-    }
-    if !is_piece(operation, piece) {
-        return Err(4.into());
-    }
-    let splice = plan(tokens, operation, place, piece).ok_or(6u32)?;
+    let splice = form(tokens, buffer.len(), operation, place, piece)?;
     let new = tokens.len() - splice.cut + splice.put.len();
-    if new > TOKENS.min(buffer.len()) || is_too_deep(tokens, &splice) {
-        return Err(5.into());
-    }
     let (by, with) = taken_back(tokens, operation, piece, &splice);
     let back = match back {
         Some(back) => Some(back.get_mut(..3 + with.len()).ok_or(5u32)?),
@@ -107,6 +98,22 @@ fn made(
         buffer[new..old].fill(0);
     }
     Ok((new, children))
+}
+
+/// What an edit does, if its form, its place and its size in a buffer of `room` places are good; else the number of what is not.
+pub fn form<'a>(tokens: &[u32], room: usize, operation: u32, place: u64, piece: &'a [u32]) -> Result<Splice<'a>, u32> {
+    if !(INSERT..=DROP).contains(&operation) {
+        return Err(6);
+    }
+    if !is_piece(operation, piece) {
+        return Err(4);
+    }
+    let splice = plan(tokens, operation, place, piece).ok_or(6u32)?;
+    let new = tokens.len() - splice.cut + splice.put.len();
+    if new > TOKENS.min(room) || is_too_deep(tokens, &splice) {
+        return Err(5);
+    }
+    Ok(splice)
 }
 
 fn is_piece(operation: u32, piece: &[u32]) -> bool {

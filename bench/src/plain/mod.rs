@@ -1,4 +1,4 @@
-//! The straightforward version: the eleven calls in safe Rust, as one writes them without proofs.
+//! The straightforward version: the twelve calls in safe Rust, as one writes them without proofs.
 //!
 //! It promises what the core promises. It trusts no caller: table and shape are tested at each call. It judges in the paper's
 //! order. A refusal leaves lent memory as it was.
@@ -9,6 +9,7 @@ mod compare;
 mod counts;
 mod dtd;
 mod edits;
+mod groups;
 mod judge;
 mod keys;
 mod lists;
@@ -18,7 +19,7 @@ mod schema;
 mod shape;
 mod table;
 
-use crate::calls::{Answer, Calls, Compared, Count, Counts, Listed, Spot, Verdict};
+use crate::calls::{Answer, Calls, Compared, Count, Counts, Grouped, Listed, Spot, Verdict};
 pub use compare::PLACES;
 pub use edits::spliced;
 pub use keys::Keys;
@@ -104,6 +105,11 @@ impl Calls for Plain {
     #[inline(never)]
     fn list(&self, table: &[u64], buffer: &mut [u32], used: u64, list: &[u32], counts: &mut Counts) -> Listed {
         lists::list(table, buffer, used, list, counts, self.keys)
+    }
+
+    #[inline(never)]
+    fn group(&self, table: &[u64], buffer: &mut [u32], used: u64, list: &[u32], second: &mut [u32]) -> Grouped {
+        groups::group(table, buffer, used, list, second, self.keys)
     }
 
     #[inline(never)]

@@ -136,6 +136,38 @@ fn a_run_of_edits() {
     }
 }
 
+/// A group is judged at its end; both buffers are as they should be.
+#[test]
+fn groups() {
+    let plain = Plain { keys: Keys::Field };
+    let table = table(&plain);
+    let grouped = |list: &[u32], room: usize| {
+        let (mut buffer, mut second) = ([7; 32], vec![8; room]);
+        buffer[..15].copy_from_slice(&SHADE);
+        let said = plain.group(&table, &mut buffer, 15, list, &mut second);
+        ((said.number, said.place, said.used, said.change, said.which), buffer[..20].to_vec(), second)
+    };
+    let left = |tokens: &[u32], longest: usize, behind: u32, room: usize| {
+        let mut left = vec![behind; room];
+        left[..longest].fill(0);
+        left[..tokens.len()].copy_from_slice(tokens);
+        left
+    };
+    let rename = [4, 3, 2, 12, 173, 4, 10, 2, 20, 173];
+    let mut renamed = SHADE;
+    (renamed[5], renamed[12]) = (173, 173);
+    assert_eq!(grouped(&rename, 33), ((0, 0, 15, 0, 0), left(&renamed, 15, 7, 20), left(&renamed, 15, 8, 33)));
+    let before = left(&SHADE, 15, 7, 20);
+    let (said, buffer, second) = grouped(&rename[..5], 32);
+    assert_eq!((said, buffer, second[5]), ((12, 12, 15, 0, 0), before.clone(), 173));
+    assert_eq!(grouped(&rename, 31), ((5, 0, 15, 0, 0), before.clone(), vec![8; 31]));
+    assert_eq!(grouped(&rename[..9], 31), ((4, 0, 15, 0, 0), before.clone(), vec![8; 31]));
+    let twin = [1, 10, 4, 9, 12, 165, 2, 2, 3, 0, 2, 12, 0];
+    let shorter = [1, 4, 61, 9, 12, 165, 2, 25, 20, 165, 2, 2];
+    assert_eq!(grouped(&twin[..10], 32), ((0, 0, 12, -3, 0), left(&shorter, 15, 7, 20), left(&shorter, 19, 8, 32)));
+    assert_eq!(grouped(&twin, 32), ((6, 0, 15, 0, 3), before, left(&shorter, 19, 8, 32)));
+}
+
 /// A fixed attribute may be absent, and has its value if it is present.
 #[test]
 fn fixed_attributes() {

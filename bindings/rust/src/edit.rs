@@ -1,4 +1,4 @@
-//! Edits and lists of them, and what one that was done tells.
+//! Edits, lists and groups of them, and what one that was done tells.
 use crate::{numbers, Fault};
 
 /// An edit: what is done, where, and with which tokens. Any numbers may stand in it; a wrong one is refused.
@@ -93,4 +93,14 @@ pub struct Last {
     pub change: i32,
     /// the children looked at, as in [`Done`]
     pub children: usize,
+}
+
+/// A group of edits that was done.
+#[derive(Clone, Copy, Debug, PartialEq, Eq)]
+#[non_exhaustive]
+pub struct Grouped {
+    /// the document's new length
+    pub used: usize,
+    /// the new length less the old
+    pub change: i32,
 }

@@ -45,9 +45,9 @@ pub mod raw;
 pub mod token;
 
 pub use dtd::{import, import_spot, names, Spot};
-pub use edit::{Done, Edit, Last, Listed};
+pub use edit::{Done, Edit, Grouped, Last, Listed};
 pub use numbers::{COUNT_PLACES, MOST_BACK, MOST_BYTES, MOST_EDITS, MOST_SCHEMA_FILE, MOST_TOKENS, SEQUENCE_PLACES, TABLE_WORDS, VERSION};
-pub use refusal::{Fault, Refusal};
+pub use refusal::{Fault, GroupFault, Refusal};
 
 #[cfg(not(target_pointer_width = "64"))]
 compile_error!("lengths have 64 bits");
@@ -245,6 +245,44 @@ impl Table {
         let last = Fault::of(r.last.number, r.last.place);
         let last = last.map(|()| Last { change: r.last.change, children: r.last.children as usize });
         Listed { used: r.last.used as usize, done: r.done as usize, last }
+    }
+
+    /// Makes the edits of a list as one: each is tested for form, place and size alone, and only the last document is judged, whole. If it is
+    /// valid it takes the document's place; else `doc` is left as it was. The edits are worked on `second`, which has as many places as `doc`
+    /// or more. The list is as in [`Table::list`].
+    ///
+    /// A group carries no counts along: after one that is done, [`Table::check`] writes them before the next edit or list.
+    ///
+    /// ```
+    /// use shrikemuff::numbers::{EMPTY, ID, IDREF, REQUIRED};
+    /// use shrikemuff::{token, write, Edit, Refusal, Table, COUNT_PLACES};
+    ///
+    /// let mut schema = [0; 10];
+    /// write(&[1, 0, EMPTY, 2, 0, ID, REQUIRED, 1, IDREF, REQUIRED], &mut schema).unwrap(); // one element, which refers to itself
+    /// let table = Table::translate(&schema).unwrap();
+    /// let named = |name| [token::start(0), token::attribute(0), token::value(name), token::attribute(1), token::value(name), token::end()];
+    /// let (mut doc, mut second, mut counts) = (named(20), [0; 6], [0; COUNT_PLACES]);
+    /// table.check(&doc, 6, &mut counts).unwrap();
+    ///
+    /// // from 20 to 21: the name, and what refers to it
+    /// let rename: Vec<u32> = (0..2).flat_map(|attribute| [4, 0, 2, token::attribute(attribute), token::value(21)]).collect();
+    /// assert_eq!(table.list(&mut doc, 6, &rename, &mut counts).last.unwrap_err().refusal, Refusal::NoId);
+    /// let done = table.group(&mut doc, 6, &rename, &mut second).unwrap();
+    /// assert_eq!((done.used, done.change), (6, 0));
+    /// assert_eq!(doc, named(21));
+    /// table.check(&doc, 6, &mut counts).unwrap();
+    /// ```
+    pub fn group(&self, doc: &mut [u32], used: usize, list: &[u32], second: &mut [u32]) -> Result<Grouped, GroupFault> {
+        served()?;
+        // SAFETY: as in `read`.
+        let r = unsafe {
+            let (words, room, second_room) = (self.words.as_ptr(), doc.len(), second.len());
+            let (doc, second) = (doc.as_mut_ptr(), second.as_mut_ptr());
+            raw::shrike_group(words, TABLE_WORDS, doc, room, used as u64, list.as_ptr(), list.len(), second, second_room)
+        };
+        let which = if r.which == 0 { None } else { Some(r.which as usize) };
+        Fault::of(r.number, r.place).map_err(|fault| GroupFault { fault, which })?;
+        Ok(Grouped { used: r.used as usize, change: r.change })
     }
 }
 

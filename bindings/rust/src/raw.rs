@@ -35,6 +35,17 @@ pub struct Listed {
     pub done: u32,
 }
 
+/// `shrike_grouped`
+#[repr(C)]
+#[derive(Clone, Copy, Debug, PartialEq, Eq)]
+pub struct Grouped {
+    pub number: u32,
+    pub place: u32,
+    pub used: u64,
+    pub change: i32,
+    pub which: u32,
+}
+
 /// `shrike_compared`
 #[repr(C)]
 #[derive(Clone, Copy, Debug, PartialEq, Eq)]
@@ -85,6 +96,17 @@ extern "C" {
         n: usize,
         counts: *mut i32,
     ) -> Listed;
+    pub fn shrike_group(
+        table: *const u64,
+        words: usize,
+        doc: *mut u32,
+        room: usize,
+        used: u64,
+        list: *const u32,
+        n: usize,
+        second: *mut u32,
+        second_room: usize,
+    ) -> Grouped;
     pub fn shrike_elements(table: *const u64, words: usize, counts: *const i32, name: u32) -> Count;
     pub fn shrike_compare(
         old_table: *const u64,

@@ -160,6 +160,34 @@ impl Fault {
     }
 }
 
+/// The refusal of a group of edits.
+#[derive(Clone, Copy, Debug, PartialEq, Eq, Hash)]
+pub struct GroupFault {
+    /// why; and where, if it is the last document's
+    pub fault: Fault,
+    /// the edit that was refused, from 1; none if it is the group itself or its last document
+    pub which: Option<usize>,
+}
+
+impl From<Refusal> for GroupFault {
+    /// The refusal of a group itself.
+    fn from(refusal: Refusal) -> GroupFault {
+        GroupFault { fault: refusal.into(), which: None }
+    }
+}
+
+impl fmt::Display for GroupFault {
+    fn fmt(&self, f: &mut fmt::Formatter<'_>) -> fmt::Result {
+        self.fault.fmt(f)?;
+        if let Some(which) = self.which {
+            write!(f, ", edit {which}")?;
+        }
+        Ok(())
+    }
+}
+
+impl std::error::Error for GroupFault {}
+
 impl fmt::Display for Fault {
     fn fmt(&self, f: &mut fmt::Formatter<'_>) -> fmt::Result {
         self.refusal.fmt(f)?;

@@ -18,12 +18,14 @@ fn refusals() -> Vec<Option<Refusal>> {
         table.check(&doc, 0, &mut counts).err().map(|fault| fault.refusal),
         table.edit(&mut doc, 0, Edit::remove(1), &mut [0; 3], &mut counts).err().map(|fault| fault.refusal),
         table.list(&mut doc, 0, &[2, 1, 0], &mut counts).last.err().map(|fault| fault.refusal),
+        table.group(&mut doc, 0, &[2, 1, 0], &mut [0; 4]).err().map(|fault| fault.fault.refusal),
         table.elements(&counts, 0).err(),
         compare(&table, &table, 0, &mut []).err(),
     ]
 }
 
-const CALLS: [&str; 11] = ["read", "write", "import", "names", "import_spot", "translate", "check", "edit", "list", "elements", "compare"];
+const CALLS: [&str; 12] =
+    ["read", "write", "import", "names", "import_spot", "translate", "check", "edit", "list", "group", "elements", "compare"];
 
 #[test]
 #[ignore = "the library is not the newer one"]

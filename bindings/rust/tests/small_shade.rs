@@ -289,6 +289,72 @@ fn lists() {
     assert_eq!((listed.used, listed.done, listed.last.map(|_| ())), (usize::MAX, 0, fault(Shape, 0)));
 }
 
+/// Makes a group of edits of the shade: the new length and the change are due, or a fault, its place and which edit it was. What the
+/// second buffer holds then.
+#[track_caller]
+fn grouped(list: &[u32], due: Result<(usize, i32), (Refusal, usize, Option<usize>)>) -> Vec<u32> {
+    let (mut doc, mut second) = (shade(), vec![BEHIND + 1; 41]);
+    let said = table().group(&mut doc, 15, list, &mut second);
+    assert_eq!(said.map(|done| (done.used, done.change)).map_err(|f| (f.fault.refusal, f.fault.place, f.which)), due);
+    let mut expected = shade();
+    if let Ok((used, _)) = due {
+        expected[..15].fill(0);
+        expected[..used].copy_from_slice(&second[..used]);
+    }
+    assert_eq!(doc, expected);
+    second
+}
+
+#[test]
+fn groups() {
+    use Refusal::{Attributes, Content, IdTwice, NoId, Place, Room, Shape};
+    let second = |tokens: &[u32], longest: usize| {
+        let mut second = vec![BEHIND + 1; 41];
+        second[..longest].fill(0);
+        second[..tokens.len()].copy_from_slice(tokens);
+        second
+    };
+    // a rename: the panel's ID, and the use that refers to it; each alone is refused
+    let rename = [4, 3, 2, 12, 173, 4, 10, 2, 20, 173];
+    let mut renamed = SHADE;
+    (renamed[5], renamed[12]) = (173, 173);
+    assert_eq!(grouped(&rename, Ok((15, 0))), second(&renamed, 15));
+    assert_eq!(grouped(&rename[..5], Err((NoId, 12, None)))[5], 173);
+    assert_eq!(grouped(&rename[5..], Err((NoId, 12, None)))[12], 173);
+    // what is longer on the way is 0 behind the last document
+    let step = [1, 10, 4, 9, 12, 165, 2, 2, 3, 0];
+    assert_eq!(grouped(&step, Ok((12, -3))), second(&[1, 4, 61, 9, 12, 165, 2, 25, 20, 165, 2, 2], 19));
+    // the last document's fault, with its place: attributes, content, an ID twice
+    assert_eq!(grouped(&[5, 3, 1, 12], Err((Attributes, 3, None)))[..4], [1, 4, 61, 9]);
+    grouped(&[2, 3, 0], Err((Content, 3, None)));
+    grouped(&step[..7], Err((IdTwice, 12, None)));
+    // an edit that is refused, and which; the second buffer has what was reached
+    assert_eq!(grouped(&[2, 15, 0], Err((Place, 0, Some(1)))), second(&SHADE, 15));
+    let longer = [1, 4, 61, 9, 12, 165, 17, 243, 2, 2, 9, 12, 165, 2, 25, 20, 165, 2, 2];
+    assert_eq!(grouped(&[&step[..7], &[6, 3, 0]].concat(), Err((Place, 0, Some(2)))), second(&longer, 19));
+    assert_eq!(grouped(&[&step[..7], &[1, 3, 1, 9]].concat(), Err((Shape, 0, Some(2)))), second(&longer, 19));
+    let many: Vec<u32> = step[..7].repeat(7);
+    grouped(&many, Err((Room, 0, Some(7))));
+    // the group itself: nothing is written
+    let untouched = second(&[], 0);
+    assert_eq!(grouped(&[], Err((Shape, 0, None))), untouched);
+    assert_eq!(grouped(&rename[..9], Err((Shape, 0, None))), untouched);
+    assert_eq!(grouped(&[2, 15, 0].repeat(MOST_EDITS + 1), Err((Room, 0, None))), untouched);
+    let refused = |table: &Table, used, places: usize| {
+        let (mut doc, mut short) = (shade(), vec![BEHIND; places]);
+        let fault = table.group(&mut doc, used, &rename, &mut short).unwrap_err();
+        assert_eq!((doc, short, fault.which), (shade(), vec![BEHIND; places], None));
+        fault.fault.refusal
+    };
+    assert_eq!(refused(&table(), 15, 39), Room);
+    assert_eq!(refused(&table(), 14, 39), Shape);
+    assert_eq!(refused(&Table::from_words(Box::new([0; TABLE_WORDS])), 14, 39), Refusal::Table);
+    let fault = table().group(&mut shade(), 15, &[2, 15, 0], &mut [0; 40]).unwrap_err();
+    assert_eq!(fault.to_string(), "operation or place, edit 1");
+    let fault = table().group(&mut shade(), 15, &rename[..5], &mut [0; 40]).unwrap_err();
+    assert_eq!(fault.to_string(), "reference to none at 12");
+}
+
 /// Counts are written by a check that says valid; any numbers are taken, and an edit does not bring them out of their range.
 #[test]
 fn counts() {
