@@ -20,6 +20,7 @@ BLOCK = 138              # numbers of one element in a table
 FILE = 65536             # most bytes of a file of the edit program
 SEQUENCE = 4290          # fewest places for a lost sequence
 BACK = 3 + TOKENS        # most numbers of an edit that takes another one back
+EDITS = 256              # most edits of a list
 
 START, END, TEXT, ATTRIBUTE, VALUE = 1, 2, 3, 4, 5
 CDATA, ID, IDREF, IDREFS = 0, 1, 2, 3
@@ -880,6 +881,57 @@ def stepping_back(second):
     return second[0], second[1], second[3:3 + second[2]]
 
 
+# ------------------------------------------------------------------ lists
+
+def edits_of(numbers):
+    """The edits of a list (item 6), each operation, place and piece; raises
+    Refused at its first fault from the front."""
+    if not numbers:
+        raise Refused(4)
+    out, at = [], 0
+    while at < len(numbers):
+        if len(out) == EDITS:
+            raise Refused(5)         # one more is begun
+        head, at = numbers[at:at + 3], at + 3
+        if len(head) < 3 or head[2] > len(numbers) - at:
+            raise Refused(4)         # ends inside this one
+        out.append((head[0], head[1], list(numbers[at:at + head[2]])))
+        at += head[2]
+    return out
+
+
+def list_numbers(edits):
+    return [number for operation, place, piece in edits for number in [operation, place, len(piece)] + piece]
+
+
+def list_by_schema(schema, buffer, used, numbers):
+    """(number, place, used after, change, children looked at, edits done,
+    buffer after). The first five are the last answer."""
+    last, done, after = (0, 0, used, 0, 0), 0, list(buffer)
+    try:
+        edits = edits_of(numbers)
+    except Refused as refused:
+        return refused.number, 0, used, 0, 0, 0, after
+    for one in edits:
+        *last, after, _ = edit_by_schema(schema, after, last[2], *one, [0] * BACK)
+        if last[0]:
+            break
+        done += 1
+    return tuple(last) + (done, after)
+
+
+def list_edit(table, buffer, used, numbers):
+    """(number, place, used after, change, children looked at, edits done,
+    buffer after)"""
+    if proper(table):
+        return list_by_schema(rules_of(table), buffer, used, numbers)
+    try:
+        number = edit(table, buffer, used, *edits_of(numbers)[0], [0] * BACK)[0]
+    except Refused as refused:
+        number = refused.number
+    return number, 0, used, 0, 0, 0, list(buffer)
+
+
 # ---------------------------------------------------------------- compare
 
 def lost(old, new, names):
@@ -1121,6 +1173,42 @@ def self_test():
     same(edit(table, room, 15, 2, 1, [], [])[:2], (6, 0))                # after the place
     same(edit(table, room, 15, 4, 3, [4, 61], [98] * 3)[:2], (5, 0))     # taken back by a drop
     same(edit(table, room, 15, 4, 3, [4, 61], [98] * 4)[:2], (8, 3))
+
+    # lists (item 6)
+    def try_list(numbers, wanted):
+        """The last answer without the children, and the edits done."""
+        room = SHADE_DOC + [99] * 10
+        got = list_edit(table, room, 15, numbers)
+        same(list_by_schema(schema, room, 15, numbers), got)
+        same(got[:4] + got[5:6], wanted)
+        after, used = room, 15
+        for one in edits_of(numbers)[:got[5]] if got[5] else []:
+            single = edit(table, after, used, *one, [98] * BACK)
+            same(single[0], 0)
+            after, used = single[5], single[2]
+        same((after, used), (got[6], got[2]))
+        return got
+
+    set_title = [4, 0, 2, 4, 69]
+    steps = [2, 3, 0, 1, 10, 4, 9, 12, 173, 2, 3, 3, 4, 9, 12, 173, 2, 2, 14, 0, 2, 3, 0]
+    try_list(steps, (9, 3, 15, 0, 0))
+    try_list(steps[3:], (11, 9, 19, 0, 1))                     # what was done before stands
+    got = try_list(steps[3:10] + steps[17:], (0, 0, 8, -7, 3))   # the change is the last one's alone
+    same(got[6], [1, 4, 61, 9, 12, 173, 2, 2] + [0] * 11 + [99] * 6)
+    try_list([], (4, 0, 15, 0, 0))
+    for cut in range(1, 5):
+        try_list(set_title[:cut], (4, 0, 15, 0, 0))
+        try_list(set_title + set_title[:cut], (4, 0, 15, 0, 0))          # before any edit is run
+        try_list(set_title * 256 + set_title[:cut], (5, 0, 15, 0, 0))    # a 257th is begun
+    try_list(set_title * 256, (0, 0, 15, 0, 256))
+    try_list(set_title * 257, (5, 0, 15, 0, 0))
+    try_list([4, 0, 3, 4, 69], (4, 0, 15, 0, 0))               # a piece count over what is left
+    try_list([9, 9, 2 ** 32 - 1], (4, 0, 15, 0, 0))
+    try_list([2, 10, 0, 4, 0, 8193, 4] + [69] * 8192, (4, 0, 11, 0, 1))  # all there: its edit's own 4
+    try_list([2, 10, 0, 4, 0, 8192, 4] + [69] * 8191, (5, 0, 11, 0, 1))
+    same(list_edit([], SHADE_DOC, 99, set_title * 257), (5, 0, 99, 0, 0, 0, SHADE_DOC))
+    same(list_edit([], SHADE_DOC, 99, set_title), (13, 0, 99, 0, 0, 0, SHADE_DOC))
+    same(list_edit(table, SHADE_DOC, 99, set_title), (4, 0, 99, 0, 0, 0, SHADE_DOC))
 
     # where content stops (item 3)
     try_edit(1, 10, [243], (9, 10))

@@ -7,6 +7,7 @@ pub mod edits;
 pub mod expression;
 pub mod grammar;
 pub mod judgement;
+pub mod lists;
 pub mod numbers;
 pub mod occurrences;
 pub mod program;
