@@ -1,10 +1,11 @@
 //! Answers from lines of numbers, by this program alone: for another program that makes cases of its own.
 //!
 //! `schema BYTES` and `table WORDS` choose the table and are answered by nothing. `check USED | DOCUMENT` is answered by number and place,
-//! `edit USED OPERATION PLACE | DOCUMENT | PIECE | BACK` by the numbers of the answer and both buffers after it, `|` before each.
+//! `edit USED OPERATION PLACE | DOCUMENT | PIECE | BACK` by the numbers of the answer and both buffers after it, `|` before each,
+//! `list USED | DOCUMENT | LIST` by the numbers of the last answer, the edits done and the buffer after it.
 
 use second::case::{Case, Memory, Outcome, Said, Table};
-use second::paper::edits::Edit;
+use second::paper::edits::{Answer, Edit};
 use second::paper::schema_file;
 use std::io::{stdin, stdout, BufRead, BufWriter, Error, ErrorKind, Result, Write};
 use std::rc::Rc;
@@ -35,6 +36,10 @@ pub fn answers() -> Result<()> {
                 let case = Case::Edit { table: Rc::clone(&table), doc, used, edit, back, give: None };
                 writeln!(out, "{}", in_numbers(&case.outcome()))?;
             }
+            ("list", [used, doc, numbers]) => {
+                let case = Case::List { table: Rc::clone(&table), doc: list(doc)?, used: one(list(used)?)?, list: list(numbers)? };
+                writeln!(out, "{}", in_numbers(&case.outcome()))?;
+            }
             _ => return Err(bad()),
         }
     }
@@ -49,11 +54,15 @@ fn in_numbers(outcome: &Outcome) -> String {
     match (&outcome.said, &outcome.after[..]) {
         (Said::Verdict(said), _) => format!("{} {}", said.number, said.place),
         (Said::Answer(said), [Memory::Tokens(doc), Memory::Tokens(back)]) => {
-            let head = format!("{} {} {} {} {}", said.number, said.place, said.used, said.change, said.children);
-            format!("{head} | {} | {}", spaced(doc), spaced(back))
+            format!("{} | {} | {}", of_answer(said), spaced(doc), spaced(back))
         }
-        _ => unreachable!("checks and edits alone are asked"),
+        (Said::Listed(said), [Memory::Tokens(doc)]) => format!("{} {} | {}", of_answer(&said.last), said.done, spaced(doc)),
+        _ => unreachable!("checks, edits and lists alone are asked"),
     }
+}
+
+fn of_answer(said: &Answer) -> String {
+    format!("{} {} {} {} {}", said.number, said.place, said.used, said.change, said.children)
 }
 
 fn spaced(numbers: &[u32]) -> String {

@@ -5,6 +5,7 @@ use second::case::{Case, Memory, Outcome, Said};
 use second::paper::dtd::Spot;
 use second::paper::edits::Answer;
 use second::paper::judgement::Verdict;
+use second::paper::lists::Listed;
 use second::paper::program::Files;
 use second::saved;
 use shrikemuff::raw as library;
@@ -15,33 +16,41 @@ use std::process::Command;
 /// More bytes than a schema file has: two for each of 255 symbols, and 64 attributes of three numbers, 48 times.
 const LONGEST_SCHEMA: usize = 65_536;
 
-/// A piece of lent memory: its name, the width of its numbers, and its bytes.
+/// A piece of lent memory: its name, the width of its numbers, its bytes, and if it is lent for writing, which of the outcome's it is.
 struct Lent<'a> {
     name: &'static str,
     width: usize,
     bytes: &'a [u8],
+    after: Option<usize>,
 }
 
+/// Lent for reading.
 fn lent<'a, T: Copy>(name: &'static str, numbers: &'a [T]) -> Lent<'a> {
-    Lent { name, width: std::mem::size_of::<T>(), bytes: bytes_of(numbers) }
+    Lent { name, width: std::mem::size_of::<T>(), bytes: bytes_of(numbers), after: None }
 }
 
-/// The memory of a case, what is lent for writing being the second and the fourth; else in the order of the call.
+/// Lent for writing.
+fn written<'a, T: Copy>(name: &'static str, numbers: &'a [T], after: usize) -> Lent<'a> {
+    Lent { after: Some(after), ..lent(name, numbers) }
+}
+
+/// The memory of a case.
 fn memory_of(case: &Case) -> Vec<Lent<'_>> {
     match case {
-        Case::Read { file, buffer } => vec![lent("file", file), lent("buffer", buffer)],
-        Case::Write { tokens, buffer } => vec![lent("tokens", tokens), lent("buffer", buffer)],
-        Case::Translate { file, buffer } => vec![lent("file", file), lent("table", buffer)],
-        Case::Import { text, buffer } => vec![lent("text", text), lent("file", buffer)],
-        Case::Names { text, buffer } => vec![lent("text", text), lent("names", buffer)],
+        Case::Read { file, buffer } => vec![lent("file", file), written("buffer", buffer, 0)],
+        Case::Write { tokens, buffer } => vec![lent("tokens", tokens), written("buffer", buffer, 0)],
+        Case::Translate { file, buffer } => vec![lent("file", file), written("table", buffer, 0)],
+        Case::Import { text, buffer } => vec![lent("text", text), written("file", buffer, 0)],
+        Case::Names { text, buffer } => vec![lent("text", text), written("names", buffer, 0)],
         Case::Spot { text } => vec![lent("text", text)],
-        Case::Imported { text, buffer } => vec![lent("text", text), lent("table", buffer)],
+        Case::Imported { text, buffer } => vec![lent("text", text), written("table", buffer, 0)],
         Case::Check { table, doc, .. } => vec![lent("table", &table.words), lent("document", doc)],
         Case::Edit { table, doc, edit, back, .. } => {
-            vec![lent("table", &table.words), lent("document", doc), lent("piece", &edit.piece), lent("second buffer", back)]
+            vec![lent("table", &table.words), written("document", doc, 0), lent("piece", &edit.piece), written("second buffer", back, 1)]
         }
+        Case::List { table, doc, list, .. } => vec![lent("table", &table.words), written("document", doc, 0), lent("list", list)],
         Case::Compare { old, new, buffer, .. } => {
-            vec![lent("old table", &old.words), lent("sequence", buffer), lent("new table", &new.words)]
+            vec![lent("old table", &old.words), lent("new table", &new.words), written("sequence", buffer, 0)]
         }
         Case::Program(_) => vec![],
     }
@@ -87,10 +96,7 @@ impl Caller {
             Err(trouble) => differences.push(trouble.clone()),
         }
         for (k, lent) in memory.iter().enumerate() {
-            let after = match expected.after.get(k / 2) {
-                Some(after) if k % 2 == 1 => after_bytes(after),
-                _ => lent.bytes,
-            };
+            let after = lent.after.map_or(lent.bytes, |after| after_bytes(&expected.after[after]));
             if let Some((byte, got)) = self.lenders[k].difference(after) {
                 let (place, byte_of) = (byte / lent.width, byte % lent.width);
                 let wanted = after[byte];
@@ -163,17 +169,21 @@ impl Caller {
                         at[3] as *mut u32,
                         back.len(),
                     );
-                    let library::Answer { number, place, used, change, children } = said;
-                    Said::Answer(Answer { number, place, used, change, children })
+                    Said::Answer(answer(said))
+                }
+                Case::List { table, doc, used, list } => {
+                    let (words, room, n) = (table.words.len(), doc.len(), list.len());
+                    let said = library::shrike_list(at[0] as *const u64, words, at[1] as *mut u32, room, *used, at[2] as *const u32, n);
+                    Said::Listed(Listed { last: answer(said.last), done: said.done })
                 }
                 Case::Compare { old, new, element, buffer } => {
                     let said = library::shrike_compare(
                         at[0] as *const u64,
                         old.words.len(),
-                        at[2] as *const u64,
+                        at[1] as *const u64,
                         new.words.len(),
                         *element,
-                        at[1] as *mut u32,
+                        at[2] as *mut u32,
                         buffer.len(),
                     );
                     Said::Compared { number: said.number, takes_all: said.takes_all, length: said.length }
@@ -197,6 +207,11 @@ impl Caller {
     }
 }
 
+fn answer(said: library::Answer) -> Answer {
+    let library::Answer { number, place, used, change, children } = said;
+    Answer { number, place, used, change, children }
+}
+
 fn prepared(folder: &Path, files: &Files) -> std::io::Result<()> {
     fs::create_dir(folder)?;
     saved::save_files(folder, files)
@@ -209,10 +224,14 @@ pub fn in_words(said: &Said) -> String {
         Said::Number(number) => format!("number {number}"),
         Said::Spot(spot) => format!("number {}, offset {}", spot.number, spot.offset),
         Said::Verdict(verdict) => format!("number {}, place {}", verdict.number, verdict.place),
-        Said::Answer(Answer { number, place, used, change, children }) => {
-            format!("number {number}, place {place}, used {used}, change {change}, children {children}")
-        }
+        Said::Answer(answer) => answer_in_words(answer),
+        Said::Listed(listed) => format!("{}, done {}", answer_in_words(&listed.last), listed.done),
         Said::Compared { number, takes_all, length } => format!("number {number}, takes all {takes_all}, length {length}"),
         Said::Printed(text) => format!("{:?}", String::from_utf8_lossy(text)),
     }
+}
+
+fn answer_in_words(answer: &Answer) -> String {
+    let Answer { number, place, used, change, children } = answer;
+    format!("number {number}, place {place}, used {used}, change {change}, children {children}")
 }

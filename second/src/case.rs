@@ -5,6 +5,7 @@ use crate::paper::dtd::{self, Spot};
 use crate::paper::edits::{self, Answer, Edit};
 use crate::paper::grammar::Grammar;
 use crate::paper::judgement::{self, Verdict};
+use crate::paper::lists::{self, Listed};
 use crate::paper::program::{self, Files};
 use crate::paper::{answer, compare, numbers, schema_file, table};
 use std::rc::Rc;
@@ -31,8 +32,9 @@ impl Table {
     }
 }
 
-/// A call and its inputs; `Imported` is two: what is imported, if it is, is translated. A `buffer`, and of an edit the document and the
-/// buffer for what takes it `back`, are lent for writing; all else only for reading. An edit that steps back must `give` these tokens.
+/// A call and its inputs; `Imported` is two: what is imported, if it is, is translated. A `buffer`, of an edit and of a list the document, and
+/// of an edit the buffer for what takes it `back`, are lent for writing; all else only for reading. An edit that steps back must `give` these
+/// tokens.
 #[derive(Clone, Debug)]
 pub enum Case {
     Read { file: Vec<u8>, buffer: Vec<u32> },
@@ -44,6 +46,7 @@ pub enum Case {
     Imported { text: Vec<u8>, buffer: Vec<u64> },
     Check { table: Rc<Table>, doc: Vec<u32>, used: u64 },
     Edit { table: Rc<Table>, doc: Vec<u32>, used: u64, edit: Edit, back: Vec<u32>, give: Option<Vec<u32>> },
+    List { table: Rc<Table>, doc: Vec<u32>, used: u64, list: Vec<u32> },
     Compare { old: Rc<Table>, new: Rc<Table>, element: u32, buffer: Vec<u32> },
     Program(Files),
 }
@@ -56,6 +59,7 @@ pub enum Said {
     Spot(Spot),
     Verdict(Verdict),
     Answer(Answer),
+    Listed(Listed),
     Compared { number: u32, takes_all: u32, length: u32 },
     Printed(Vec<u8>),
 }
@@ -126,6 +130,11 @@ impl Case {
                 let memory = vec![Memory::Tokens(after.doc), Memory::Tokens(after.back)];
                 Outcome { said: Said::Answer(after.answer), after: memory, counted }
             }
+            Case::List { table, doc, used, list } => {
+                let ran = lists::list(table.grammar.as_ref(), doc, *used, list);
+                let counted = edges::of_list(list, &ran.listed);
+                Outcome { said: Said::Listed(ran.listed), after: vec![Memory::Tokens(ran.doc)], counted }
+            }
             Case::Compare { old, new, element, buffer } => {
                 match compare::compare(old.grammar.as_ref(), new.grammar.as_ref(), *element, buffer.len()) {
                     Ok(None) => compared((0, 1), buffer, &[], "compare yes"),
@@ -137,60 +146,6 @@ impl Case {
                 let printed = program::printed(files);
                 Outcome { said: Said::Printed(printed.text.into_bytes()), after: vec![], counted: printed.lines }
             }
-        }
-    }
-
-    pub fn call(&self) -> &'static str {
-        match self {
-            Case::Read { .. } => "read",
-            Case::Write { .. } => "write",
-            Case::Translate { .. } => "translate",
-            Case::Import { .. } => "import",
-            Case::Names { .. } => "names",
-            Case::Spot { .. } => "spot",
-            Case::Imported { .. } => "imported",
-            Case::Check { .. } => "check",
-            Case::Edit { .. } => "edit",
-            Case::Compare { .. } => "compare",
-            Case::Program(_) => "program",
-        }
-    }
-
-    /// The case in a few words.
-    pub fn in_words(&self) -> String {
-        match self {
-            Case::Read { file, buffer } => format!("read: {} bytes, room for {}", file.len(), buffer.len()),
-            Case::Write { tokens, buffer } => format!("write: {} tokens, room for {} bytes", tokens.len(), buffer.len()),
-            Case::Translate { file, buffer } => format!("translate: {} bytes, room for {} words", file.len(), buffer.len()),
-            Case::Import { text, buffer } => format!("import: room for {} bytes\n  text {}", buffer.len(), quoted(text)),
-            Case::Names { text, buffer } => format!("names: room for {} bytes\n  text {}", buffer.len(), quoted(text)),
-            Case::Spot { text } => format!("import spot\n  text {}", quoted(text)),
-            Case::Imported { text, .. } => format!("import and translate\n  text {}", quoted(text)),
-            Case::Check { table, doc, used } => {
-                format!("check: {}, buffer of {}, used {used}\n  document {}", table_in_words(table), doc.len(), short(doc))
-            }
-            Case::Edit { table, doc, used, edit, back, give } => format!(
-                "{} (operation {}) at {}{}: {}, buffers of {} and {}, used {used}\n  document {}\n  piece of {}: {}",
-                operation_name(edit.operation),
-                edit.operation,
-                edit.place,
-                if give.is_some() { ", to step back" } else { "" },
-                table_in_words(table),
-                doc.len(),
-                back.len(),
-                short(doc),
-                edit.piece.len(),
-                short(&edit.piece)
-            ),
-            Case::Compare { old, new, element, buffer } => {
-                format!("compare element {element}: old {}, new {}, room for {}", table_in_words(old), table_in_words(new), buffer.len())
-            }
-            Case::Program(files) => format!(
-                "program: schema.dat {}, doc.dat {}, edits.dat {}",
-                file_in_words(&files.schema),
-                file_in_words(&files.doc),
-                file_in_words(&files.edits)
-            ),
         }
     }
 }
@@ -235,32 +190,4 @@ pub fn operation_name(operation: u32) -> &'static str {
         edits::DROP => "drop",
         _ => "no operation",
     }
-}
-
-fn table_in_words(table: &Table) -> String {
-    match (&table.schema, &table.grammar) {
-        (Some(_), _) => "translated table".to_string(),
-        (None, Some(_)) => "proper table of no schema".to_string(),
-        (None, None) => format!("improper table of {} words", table.words.len()),
-    }
-}
-
-fn file_in_words(file: &Option<Vec<u8>>) -> String {
-    match file {
-        None => "missing".to_string(),
-        Some(file) => format!("{} bytes", file.len()),
-    }
-}
-
-/// The first bytes of a text and their count.
-fn quoted(text: &[u8]) -> String {
-    let shown = String::from_utf8_lossy(&text[..text.len().min(400)]);
-    format!("of {} bytes {shown:?}", text.len())
-}
-
-/// The first numbers of a list.
-fn short(numbers: &[u32]) -> String {
-    let shown: Vec<String> = numbers.iter().take(40).map(u32::to_string).collect();
-    let more = if numbers.len() > 40 { " .." } else { "" };
-    shown.join(" ") + more
 }

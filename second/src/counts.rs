@@ -8,8 +8,8 @@ use std::collections::BTreeMap;
 const ANSWERS: usize = 17;
 
 /// The answers that each kind of call can give. Those of an edit are asked for by operation, and more often than rarely by how its second
-/// buffer (`back`) fits and by what a set finds.
-const CALLS: [(&str, &[usize]); 29] = [
+/// buffer (`back`) fits and by what a set finds; those of a list by how many edits it has, which is refused, and by its own faults.
+const CALLS: [(&str, &[usize]); 40] = [
     ("read", &[0, 1, 5]),
     ("write", &[0, 4, 5]),
     ("translate", &[0, 1, 2, 3, 13]),
@@ -36,6 +36,17 @@ const CALLS: [(&str, &[usize]); 29] = [
     ("set replaces", &[0, 5, 8, 12]),
     ("set as it was", &[0, 5, 12]),
     ("steps back", &[0]),
+    ("list", &[0, 4, 5, 6, 7, 8, 9, 10, 11, 12, 13]),
+    ("list of one", &[0, 4, 5, 6, 8, 9, 12, 13]),
+    ("list of 256", &[0, 4, 6]),
+    ("list, first refused", &[4, 5, 6, 8, 9, 10, 12, 13]),
+    ("list, later refused", &[4, 5, 6, 8, 9, 10, 12]),
+    ("list, long piece", &[4]),
+    ("list empty", &[4]),
+    ("list ends in a head", &[4]),
+    ("list ends in a piece", &[4]),
+    ("list of 257", &[5]),
+    ("list of 256, rest", &[5]),
     ("compare yes", &[0]),
     ("compare no", &[0]),
     ("compare refused", &[5, 6, 13, 16]),

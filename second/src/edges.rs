@@ -1,8 +1,10 @@
-//! The edges of an edit's second buffer, to be counted: each must occur.
+//! The edges of an edit's second buffer and of a list's form, to be counted: each must occur.
 
 use crate::case::Table;
 use crate::paper::answer;
 use crate::paper::edits::{self, Edit, LONGEST_BACK, SET};
+use crate::paper::lists::{self, Listed, MOST_EDITS};
+use crate::paper::MOST_TOKENS;
 
 /// How the second buffer fits, what one that is too short kept from being judged, and what a set finds; each with the number that counts.
 /// Nothing for an edit that is refused before its second buffer is looked at.
@@ -38,4 +40,37 @@ pub fn of(table: &Table, doc: &[u32], used: u64, edit: &Edit, back: &[u32], numb
         edges.push((what, number));
     }
     edges
+}
+
+/// The list's own fault; or how many edits it has, which was refused, and a piece that is too long.
+pub fn of_list(list: &[u32], listed: &Listed) -> Vec<(&'static str, u32)> {
+    let number = listed.last.number;
+    let edits = match lists::edits_of(list) {
+        Ok(edits) => edits,
+        Err(_) => return vec![(fault_of_list(list), number)],
+    };
+    let mut edges = vec![("list", number)];
+    match edits.len() {
+        1 => edges.push(("list of one", number)),
+        MOST_EDITS => edges.push(("list of 256", number)),
+        _ => {}
+    }
+    if let Some(refused) = edits.get(listed.done as usize) {
+        edges.push((if listed.done == 0 { "list, first refused" } else { "list, later refused" }, number));
+        if refused.piece.len() > MOST_TOKENS {
+            edges.push(("list, long piece", number));
+        }
+    }
+    edges
+}
+
+fn fault_of_list(list: &[u32]) -> &'static str {
+    let (edits, rest) = lists::front(list);
+    match edits.len() {
+        MOST_EDITS if lists::front(rest).0.is_empty() => "list of 256, rest",
+        MOST_EDITS => "list of 257",
+        0 if rest.is_empty() => "list empty",
+        _ if rest.len() < 3 => "list ends in a head",
+        _ => "list ends in a piece",
+    }
 }

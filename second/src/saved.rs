@@ -53,6 +53,12 @@ pub fn save(folder: &Path, case: &Case, sides: u8) -> Result<()> {
             }
             small += &format!("used {used}\noperation {}\nplace {}\n", edit.operation, edit.place);
         }
+        Case::List { table, doc, used, list } => {
+            save_table(folder, table)?;
+            write_numbers(folder, "doc.txt", doc)?;
+            write_numbers(folder, "list.txt", list)?;
+            small += &format!("used {used}\n");
+        }
         Case::Compare { old, new, element, buffer } => {
             for (name, table) in [("old", old), ("new", new)] {
                 fs::create_dir_all(folder.join(name))?;
@@ -109,6 +115,12 @@ pub fn load(folder: &Path) -> Result<(Case, u8)> {
             edit: Edit { operation: number(&small, "operation")?, place: number(&small, "place")?, piece: numbers(folder, "piece.txt")? },
             back: numbers(folder, "back.txt")?,
             give: if folder.join("give.txt").exists() { Some(numbers(folder, "give.txt")?) } else { None },
+        },
+        "list" => Case::List {
+            table: load_table(folder)?,
+            doc: numbers(folder, "doc.txt")?,
+            used: number(&small, "used")?,
+            list: numbers(folder, "list.txt")?,
         },
         "compare" => Case::Compare {
             old: load_table(&folder.join("old"))?,

@@ -1,9 +1,10 @@
-//! Lists of edits (item 6): the small shade's, their faults, and that each is a run of single calls.
+//! Lists of edits (item 6): the small shade's, their faults, and that each is a run of single calls; by this program and by the archive.
 
 use second::paper::edits::{edit, Answer, Edit, LONGEST_BACK};
 use second::paper::grammar::Grammar;
 use second::paper::lists::{edits_of, list, numbers_of, Listed, Ran};
-use second::paper::{numbers, schema_file};
+use second::paper::{numbers, schema_file, table};
+use shrikemuff::raw as library;
 
 const SCHEMA: [u32; 28] = [4, 0, 2, 5, 0, 4, 6, 3, 8, 1, 0, 0, 0, 2, 2, 3, 7, 1, 1, 1, 0, 1, 0, 0, 1, 2, 2, 0];
 const DOCUMENT: [u32; 15] = [1, 4, 61, 9, 12, 165, 17, 243, 2, 2, 25, 20, 165, 2, 2];
@@ -20,8 +21,16 @@ fn lent() -> Vec<u32> {
     buffer
 }
 
+/// What a list leaves: this program's and the archive's.
 fn ran(numbers: &[u32]) -> Ran {
-    list(Some(&grammar()), &lent(), 15, numbers)
+    let expected = list(Some(&grammar()), &lent(), 15, numbers);
+    let (table, mut doc) = (table::of(&grammar()), lent());
+    let said =
+        unsafe { library::shrike_list(table.as_ptr(), table.len(), doc.as_mut_ptr(), doc.len(), 15, numbers.as_ptr(), numbers.len()) };
+    let Answer { number, place, used, change, children } = expected.listed.last;
+    assert_eq!(said, library::Listed { last: library::Answer { number, place, used, change, children }, done: expected.listed.done });
+    assert_eq!(doc, expected.doc);
+    expected
 }
 
 /// Number, place, used length and change of the last answer, and the edits done.

@@ -6,7 +6,7 @@ give the answers, writes them as equations over the definitions, and has
 `rt check` compute these. With --share N one in N of the fixed cases is taken,
 others with each seed: N seeds in a row take them all.
 
-With --second PROGRAM its checks and edits are compared with the answers of the
+With --second PROGRAM its checks, edits and lists are compared with the answers of the
 program in second/ instead, and no equations are written.
 
 Exit status: 0 all equal; 1 some differ, or an answer that can occur did not;
@@ -78,6 +78,8 @@ REQUIRED = {
     '(second buffer)': {'of 0', 'of 1', 'of 2', 'of 3', 'just enough', 'one short', 'short, else 0', 'short, else 8',
                         'short, else 9', 'short, else 12', 'steps back'},
     '(set)': {'adds', 'replaces', 'as it was'},
+    'list': ALL,
+    '(list)': {'empty', 'ends inside', '257th begun', 'of 256', 'first refused', 'later refused'},
     'printed': {'lines', 'check not 0', 'stop 1', 'stop 2', 'stop 3', 'stop 5'},
 }
 
@@ -933,6 +935,24 @@ def edges(context, buffer, used, operation, place, piece, second, need):
     return rows
 
 
+def list_case(context, buffer, used, numbers):
+    answer = ref.list_edit(context.table, buffer, used, numbers)
+    if context.file is not None:
+        agree('list', answer, ref.list_by_schema(context.schema, buffer, used, numbers))
+    try:
+        edits = ref.edits_of(numbers)
+        rows = [('list', answer[0])]
+        if answer[0]:
+            rows.append(('(list)', 'later refused' if answer[5] else 'first refused'))
+        if len(edits) == ref.EDITS:
+            rows.append(('(list)', 'of 256'))
+    except ref.Refused as refused:
+        rows = [('(list)', '257th begun' if refused.number == 5 else 'ends inside' if numbers else 'empty')]
+    lines = ('list %d | %s | %s' % (used, plain(buffer), plain(numbers)),
+             '%s | %s' % (plain(answer[:6]), plain(answer[6])))
+    return Case([], told(call='list', buffer=buffer, used=used, numbers=numbers, expected=answer), rows, lines)
+
+
 def plain(numbers):
     return ' '.join(map(str, numbers))
 
@@ -1365,6 +1385,38 @@ class Cases:
             agree('stepping back', number, 0)
         agree('a run stepped back', buffer[:used], first)
 
+    def listing(self, wanted=None, row=None):
+        """Edits that are done, then one that is not looked at; or a list with
+        a fault of its own."""
+        r = self.r
+        contexts = self.improper() if wanted == 13 else self.translated() + self.own()
+        for _ in range(40000):
+            context, guide = self.candidates(contexts)
+            tokens = ref.lay(self.tree(guide, wanted, self.make.chance(0.7)))
+            if len(tokens) > 200:
+                continue
+            buffer, used = self.make.buffer(tokens)
+            after, length, edits = buffer, used, []
+            for _ in range(r.choice([1, 1, 2, 3, 5])):
+                root = ref.tree_of(after[:length])
+                if root is None:
+                    break
+                asked = self.make.edit(guide, root, r.choice([1, 1, 2, 3, 3, 4, 4, 5, 0]), 0.1)
+                number, _, length, _, _, after, _ = ref.edit_by_schema(guide.rules, after, length, *asked, [0] * ref.BACK)
+                edits.append(asked)
+                if number and self.make.chance(0.7):
+                    break
+            numbers = ref.list_numbers(edits)
+            if self.make.chance(0.2) or row:
+                fill = edits[0] if edits else (2, 1, [])
+                numbers += r.choice([[], [], [], ref.list_numbers([fill] * (ref.EDITS - len(edits))),
+                                     ref.list_numbers([fill] * (ref.EDITS + 1))])
+                numbers = r.choice([numbers, numbers, numbers[:-1], numbers + [1], [], numbers + [2, 1, 1]])
+            case = list_case(context, buffer, used, numbers)
+            if (wanted is None or ('list', wanted) in case.rows) and (row is None or row in case.rows):
+                return self.add(case, context)
+        raise SystemExit('no list with answer %s' % (row or wanted))
+
     # -- large ones
 
     def large(self):
@@ -1551,6 +1603,10 @@ class Cases:
                 self.check(number, self.own())
             elif call == 'edit, own table':
                 self.edit(None, number, self.own())
+            elif call == 'list':
+                self.listing(number)
+            elif call == '(list)':
+                self.listing(row=(call, number))
             elif number == 'steps back':
                 self.run_back()
             elif call == '(second buffer)':
@@ -1566,7 +1622,7 @@ class Cases:
                 (self.comparison, 5)]
         checks = sorted(REQUIRED['check'])
         pairs = [(op, number) for op, name in OPERATIONS.items() for number in sorted(REQUIRED['editBy ' + name])]
-        ways += [(self.run_back, 1), (lambda: self.check(), 4), (lambda: self.check(r.choice(checks)), 10),
+        ways += [(self.run_back, 1), (self.listing, 8), (lambda: self.check(), 4), (lambda: self.check(r.choice(checks)), 10),
                  (lambda: self.check(r.choice([None, 0, 9]), self.own()), 6),
                  (lambda: self.edit(), 8), (lambda: self.edit(None, 0), 16),
                  (lambda: self.edit(*r.choice(pairs)), 20),
@@ -1732,7 +1788,7 @@ def locate(scratch, failed):
 
 
 def compared_with(program, cases):
-    """Compares checks and edits with the answers of the program in second/,
+    """Compares checks, edits and lists with the answers of the program in second/,
     whose tokens have 32 bits; gives the exit status."""
     asked, wanted = [], []
     for context in cases.contexts:
@@ -1749,7 +1805,7 @@ def compared_with(program, cases):
     bad = [pair for pair in zip(wanted, answers) if pair[0][0].lines[1].split() != pair[1].split()]
     for (case, context), answer in bad[:5]:
         print('schema file: %s\n%s\n    second: %s\n' % (context.file, case.told, answer))
-    print('%d checks and edits of both programs, %d differ' % (len(wanted), len(bad)))
+    print('%d checks, edits and lists of both programs, %d differ' % (len(wanted), len(bad)))
     return 1 if bad else 0
 
 

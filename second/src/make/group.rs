@@ -4,7 +4,7 @@
 use super::documents::{self, Ground, Scale};
 use super::runs::Run;
 use super::sizes::Sizes;
-use super::{bad_texts, compares, edits, faults, files, programs, schemas, tables, texts};
+use super::{bad_texts, compares, edits, faults, files, lists, programs, schemas, tables, texts};
 use crate::case::{Case, Outcome, Table};
 use crate::paper::compare::LEAST_ROOM;
 use crate::paper::table::WORDS;
@@ -13,7 +13,7 @@ use crate::random::Random;
 use std::rc::Rc;
 
 /// Slots of a group, and how many of them, the last ones, are runs of the edit program.
-pub const SLOTS: u64 = 102;
+pub const SLOTS: u64 = 108;
 pub const PROGRAM_SLOTS: u64 = 4;
 
 /// A table with what is needed to grow documents for it.
@@ -72,7 +72,8 @@ impl Group {
             12..=25 => self.check(random),
             26..=85 => self.edit(random),
             86..=93 => self.text(random, slot - 86),
-            _ if slot < programs_from => self.compare(random),
+            94..=97 => self.compare(random),
+            _ if slot < programs_from => self.list(random),
             _ => {
                 let way = (programs * PROGRAM_SLOTS + slot - programs_from) as usize;
                 Case::Program(self.program(random, way % programs::WAYS))
@@ -196,6 +197,14 @@ impl Group {
         let used = if random.chance(4) { other_used(random, self.run.used, room) } else { self.run.used };
         let table = lent_table(random, base);
         self.run.edit(random, table, used, edit)
+    }
+
+    fn list(&self, random: &mut Random) -> Case {
+        let base = if random.chance(75) { &self.schema } else { &self.drawn };
+        let (doc, used) = lent_document(random, &base.ground(), self.scale);
+        let list = lists::list(random, &base.ground(), &doc, used);
+        let used = if random.chance(4) { other_used(random, used, doc.len()) } else { used };
+        Case::List { table: lent_table(random, base), doc, used, list }
     }
 
     fn program(&self, random: &mut Random, way: usize) -> crate::paper::program::Files {

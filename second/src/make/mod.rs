@@ -9,6 +9,7 @@ pub mod faults;
 pub mod files;
 pub mod group;
 pub mod keys;
+pub mod lists;
 pub mod pieces;
 pub mod programs;
 pub mod runs;

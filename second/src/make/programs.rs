@@ -28,7 +28,7 @@ const EDIT_ANSWERS: [u32; 9] = [
 const CHECK_FAULTS: [u32; 5] = [answer::ATTRIBUTES, answer::CONTENT, answer::ROOT, answer::ID_TWICE, answer::NO_ID];
 
 /// The first of several drawn that is as wanted, else the last.
-fn drawn_until<T>(random: &mut Random, tries: usize, draw: &mut dyn FnMut(&mut Random) -> T, wanted: &dyn Fn(&T) -> bool) -> T {
+pub fn drawn_until<T>(random: &mut Random, tries: usize, draw: &mut dyn FnMut(&mut Random) -> T, wanted: &dyn Fn(&T) -> bool) -> T {
     let mut drawn = draw(random);
     for _ in 1..tries {
         if wanted(&drawn) {
@@ -130,7 +130,7 @@ fn document_and_edits(random: &mut Random, ground: &Ground, scale: Scale) -> (Ve
 }
 
 /// An edit; where only few have the answer that is wanted, one of them now and then.
-fn aimed(random: &mut Random, ground: &Ground, root: &Element, number: u32) -> Edit {
+pub fn aimed(random: &mut Random, ground: &Ground, root: &Element, number: u32) -> Edit {
     match number {
         answer::ROOT if random.chance(30) => {
             let mut renamed = root.clone();

@@ -46,6 +46,13 @@ pub struct Answer {
     pub children: u32,
 }
 
+impl Answer {
+    /// The answer of a refusal: "the old length and change 0".
+    pub fn refused(number: u32, place: u32, used: u64) -> Answer {
+        Answer { number, place, used, change: 0, children: 0 }
+    }
+}
+
 /// What holds after an edit: the answer, the document's buffer and the second one.
 #[derive(Clone, Debug, PartialEq)]
 pub struct Edited {
@@ -77,21 +84,27 @@ pub enum Spot {
 /// An edit of the document in a buffer, with a second buffer for what takes it back.
 pub fn edit(grammar: Option<&Grammar>, buffer: &[u32], used: u64, edit: &Edit, back: &[u32]) -> Edited {
     let (mut doc, mut back) = (buffer.to_vec(), back.to_vec());
-    let answer = match edited(grammar, buffer, used, edit, back.len()) {
-        Err((number, place)) => Answer { number, place, used, change: 0, children: 0 },
+    let (answer, inverse) = in_place(grammar, &mut doc, used, edit, back.len());
+    if let Some(inverse) = inverse {
+        let inverse = inverse.numbers();
+        back[..inverse.len()].copy_from_slice(&inverse);
+    }
+    Edited { answer, doc, back }
+}
+
+/// Edits the document in its buffer. Gives what takes it back, if it is done.
+pub fn in_place(grammar: Option<&Grammar>, doc: &mut [u32], used: u64, edit: &Edit, back_room: usize) -> (Answer, Option<Edit>) {
+    match edited(grammar, doc, used, edit, back_room) {
+        Err((number, place)) => (Answer::refused(number, place, used), None),
         Ok((root, inverse)) => {
             let tokens = root.tokens();
-            for token in &mut doc[..used as usize] {
-                *token = 0;
-            }
+            doc[..used as usize].fill(0);
             doc[..tokens.len()].copy_from_slice(&tokens);
-            let inverse = inverse.numbers();
-            back[..inverse.len()].copy_from_slice(&inverse);
             let change = tokens.len() as i64 - used as i64;
-            Answer { number: DONE, place: 0, used: tokens.len() as u64, change: change as i32, children: looked_at(&root) }
+            let children = looked_at(&root);
+            (Answer { number: DONE, place: 0, used: tokens.len() as u64, change: change as i32, children }, Some(inverse))
         }
-    };
-    Edited { answer, doc, back }
+    }
 }
 
 /// What takes an edit back, if it is in form and the document has room for it.

@@ -22,25 +22,25 @@ pub struct Ran {
     pub doc: Vec<u32>,
 }
 
+/// The whole edits at the front of a list, up to 256, and what is left behind them.
+pub fn front(list: &[u32]) -> (Vec<Edit>, &[u32]) {
+    let (mut edits, mut rest) = (Vec::new(), list);
+    while edits.len() < MOST_EDITS && rest.len() >= 3 && rest[2] as usize <= rest.len() - 3 {
+        edits.push(Edit::at_front(rest));
+        rest = &rest[3 + rest[2] as usize..];
+    }
+    (edits, rest)
+}
+
 /// The edits of a list. "a list that is empty or ends inside an edit is 4, a 257th edit begun is 5, the first met from the front"
 pub fn edits_of(list: &[u32]) -> Result<Vec<Edit>, u32> {
-    if list.is_empty() {
-        return Err(SHAPE);
+    let (edits, rest) = front(list);
+    match (edits.len(), rest) {
+        (0, []) => Err(SHAPE),
+        (_, []) => Ok(edits),
+        (MOST_EDITS, _) => Err(ROOM),
+        _ => Err(SHAPE),
     }
-    let mut edits = Vec::new();
-    let mut rest = list;
-    while !rest.is_empty() {
-        if edits.len() == MOST_EDITS {
-            return Err(ROOM);
-        }
-        let count = *rest.get(2).ok_or(SHAPE)? as usize;
-        if count > rest.len() - 3 {
-            return Err(SHAPE);
-        }
-        edits.push(Edit::at_front(rest));
-        rest = &rest[3 + count..];
-    }
-    Ok(edits)
 }
 
 /// The numbers of a list of these edits.
@@ -50,24 +50,19 @@ pub fn numbers_of(edits: &[Edit]) -> Vec<u32> {
 
 /// A list of edits of the document in a buffer: "It ends at the first refusal; what was done before stands."
 pub fn list(grammar: Option<&Grammar>, buffer: &[u32], used: u64, list: &[u32]) -> Ran {
-    let mut ran =
-        Ran { listed: Listed { last: Answer { number: DONE, place: 0, used, change: 0, children: 0 }, done: 0 }, doc: buffer.to_vec() };
-    let edits = match edits_of(list) {
-        Ok(edits) => edits,
-        Err(number) => {
-            ran.listed.last.number = number;
-            return ran;
+    let (mut last, mut done, mut doc) = (Answer::refused(DONE, 0, used), 0, buffer.to_vec());
+    match edits_of(list) {
+        Err(number) => last.number = number,
+        Ok(edits) => {
+            // "Document, last answer and number of edits done are those of single calls", with room for their inverses.
+            for edit in &edits {
+                last = edits::in_place(grammar, &mut doc, last.used, edit, LONGEST_BACK).0;
+                if last.number != DONE {
+                    break;
+                }
+                done += 1;
+            }
         }
-    };
-    for edit in &edits {
-        // "Document, last answer and number of edits done are those of single calls", with room for their inverses.
-        let after = edits::edit(grammar, &ran.doc, ran.listed.last.used, edit, &[0; LONGEST_BACK]);
-        ran.listed.last = after.answer;
-        ran.doc = after.doc;
-        if after.answer.number != DONE {
-            break;
-        }
-        ran.listed.done += 1;
     }
-    ran
+    Ran { listed: Listed { last, done }, doc }
 }
