@@ -44,11 +44,20 @@ fn memory_of(case: &Case) -> Vec<Lent<'_>> {
         Case::Names { text, buffer } => vec![lent("text", text), written("names", buffer, 0)],
         Case::Spot { text } => vec![lent("text", text)],
         Case::Imported { text, buffer } => vec![lent("text", text), written("table", buffer, 0)],
-        Case::Check { table, doc, .. } => vec![lent("table", &table.words), lent("document", doc)],
-        Case::Edit { table, doc, edit, back, .. } => {
-            vec![lent("table", &table.words), written("document", doc, 0), lent("piece", &edit.piece), written("second buffer", back, 1)]
+        Case::Check { table, doc, counts, .. } => {
+            vec![lent("table", &table.words), lent("document", doc), written("counts", counts, 0)]
         }
-        Case::List { table, doc, list, .. } => vec![lent("table", &table.words), written("document", doc, 0), lent("list", list)],
+        Case::Edit { table, doc, edit, back, counts, .. } => vec![
+            lent("table", &table.words),
+            written("document", doc, 0),
+            lent("piece", &edit.piece),
+            written("second buffer", back, 1),
+            written("counts", counts, 2),
+        ],
+        Case::List { table, doc, list, counts, .. } => {
+            vec![lent("table", &table.words), written("document", doc, 0), lent("list", list), written("counts", counts, 1)]
+        }
+        Case::Elements { table, counts, .. } => vec![lent("table", &table.words), lent("counts", counts)],
         Case::Compare { old, new, buffer, .. } => {
             vec![lent("old table", &old.words), lent("new table", &new.words), written("sequence", buffer, 0)]
         }
@@ -61,11 +70,12 @@ fn after_bytes(memory: &Memory) -> &[u8] {
         Memory::Bytes(bytes) => bytes,
         Memory::Tokens(tokens) => bytes_of(tokens),
         Memory::Words(words) => bytes_of(words),
+        Memory::Counts(counts) => bytes_of(counts),
     }
 }
 
 /// Most pieces of memory that a call is lent.
-const MOST_LENT: usize = 4;
+const MOST_LENT: usize = 5;
 
 /// What is called: the library, and the edit program if there is one.
 pub struct Caller {
@@ -150,9 +160,9 @@ impl Caller {
                         number => number,
                     })
                 }
-                Case::Check { table, doc, used } => {
+                Case::Check { table, doc, used, .. } => {
                     let (words, room) = (table.words.len(), doc.len());
-                    let said = library::shrike_check(at[0] as *const u64, words, at[1] as *const u32, room, *used);
+                    let said = library::shrike_check(at[0] as *const u64, words, at[1] as *const u32, room, *used, at[2] as *mut i32);
                     Said::Verdict(Verdict { number: said.number, place: said.place })
                 }
                 Case::Edit { table, doc, used, edit, back, .. } => {
@@ -168,13 +178,19 @@ impl Caller {
                         edit.piece.len(),
                         at[3] as *mut u32,
                         back.len(),
+                        at[4] as *mut i32,
                     );
                     Said::Answer(answer(said))
                 }
-                Case::List { table, doc, used, list } => {
+                Case::List { table, doc, used, list, .. } => {
                     let (words, room, n) = (table.words.len(), doc.len(), list.len());
-                    let said = library::shrike_list(at[0] as *const u64, words, at[1] as *mut u32, room, *used, at[2] as *const u32, n);
+                    let (table, doc, list, counts) = (at[0] as *const u64, at[1] as *mut u32, at[2] as *const u32, at[3] as *mut i32);
+                    let said = library::shrike_list(table, words, doc, room, *used, list, n, counts);
                     Said::Listed(Listed { last: answer(said.last), done: said.done })
+                }
+                Case::Elements { table, name, .. } => {
+                    let said = library::shrike_elements(at[0] as *const u64, table.words.len(), at[1] as *const i32, *name);
+                    Said::Count { number: said.number, count: said.count }
                 }
                 Case::Compare { old, new, element, buffer } => {
                     let said = library::shrike_compare(

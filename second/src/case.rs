@@ -7,6 +7,7 @@ use crate::paper::grammar::Grammar;
 use crate::paper::judgement::{self, Verdict};
 use crate::paper::lists::{self, Listed};
 use crate::paper::program::{self, Files};
+use crate::paper::tally::{self, Tally, MIDDLE};
 use crate::paper::{answer, compare, numbers, schema_file, table};
 use std::rc::Rc;
 
@@ -32,9 +33,9 @@ impl Table {
     }
 }
 
-/// A call and its inputs; `Imported` is two: what is imported, if it is, is translated. A `buffer`, of an edit and of a list the document, and
-/// of an edit the buffer for what takes it `back`, are lent for writing; all else only for reading. An edit that steps back must `give` these
-/// tokens.
+/// A call and its inputs; `Imported` is two: what is imported, if it is, is translated. A `buffer`, of an edit and of a list the document, of
+/// an edit the buffer for what takes it `back`, and of these and a check the counts are lent for writing; all else only for reading. An edit that
+/// steps back must `give` these tokens.
 #[derive(Clone, Debug)]
 pub enum Case {
     Read { file: Vec<u8>, buffer: Vec<u32> },
@@ -44,9 +45,10 @@ pub enum Case {
     Names { text: Vec<u8>, buffer: Vec<u8> },
     Spot { text: Vec<u8> },
     Imported { text: Vec<u8>, buffer: Vec<u64> },
-    Check { table: Rc<Table>, doc: Vec<u32>, used: u64 },
-    Edit { table: Rc<Table>, doc: Vec<u32>, used: u64, edit: Edit, back: Vec<u32>, give: Option<Vec<u32>> },
-    List { table: Rc<Table>, doc: Vec<u32>, used: u64, list: Vec<u32> },
+    Check { table: Rc<Table>, doc: Vec<u32>, used: u64, counts: Tally },
+    Edit { table: Rc<Table>, doc: Vec<u32>, used: u64, edit: Edit, back: Vec<u32>, counts: Tally, give: Option<Vec<u32>> },
+    List { table: Rc<Table>, doc: Vec<u32>, used: u64, list: Vec<u32>, counts: Tally },
+    Elements { table: Rc<Table>, counts: Tally, name: u32 },
     Compare { old: Rc<Table>, new: Rc<Table>, element: u32, buffer: Vec<u32> },
     Program(Files),
 }
@@ -70,6 +72,7 @@ pub enum Memory {
     Bytes(Vec<u8>),
     Tokens(Vec<u32>),
     Words(Vec<u64>),
+    Counts(Tally),
 }
 
 /// What holds after a call: what it says, and the memory lent for writing, in the order of the case. All other memory is as it was.
@@ -117,23 +120,32 @@ impl Case {
                 let (number, words) = split(dtd::grammar(text).map(|grammar| table::of(&grammar)));
                 outcome(Said::Number(number), vec![Memory::Words(over(buffer, &words))], "import, translate", number)
             }
-            Case::Check { table, doc, used } => {
-                let verdict = judgement::check(table.grammar.as_ref(), doc, *used);
-                outcome(Said::Verdict(verdict), vec![], "check", verdict.number)
+            Case::Check { table, doc, used, counts } => {
+                let (verdict, counts) = judgement::check_counting(table.grammar.as_ref(), doc, *used, counts);
+                outcome(Said::Verdict(verdict), vec![Memory::Counts(counts)], "check", verdict.number)
             }
-            Case::Edit { table, doc, used, edit, back, give } => {
-                let after = edits::edit(table.grammar.as_ref(), doc, *used, edit, back);
+            Case::Edit { table, doc, used, edit, back, counts, give } => {
+                let after = edits::edit(table.grammar.as_ref(), doc, *used, edit, back, counts);
                 let number = after.answer.number;
                 let mut counted = vec![(operation_name(edit.operation), number)];
-                counted.extend(edges::of(table, doc, *used, edit, back, number));
+                if let (Some(grammar), Some(looked)) = (&table.grammar, &after.looked) {
+                    let again = |back: &[u32]| edits::edit(Some(grammar), doc, *used, edit, back, &MIDDLE).answer.number;
+                    counted.extend(edges::of(looked, edit, back, number, &again));
+                    counted.extend(edges::of_counts(looked, grammar, back, counts, number, &again));
+                }
                 counted.extend(give.as_ref().map(|_| ("steps back", number)));
-                let memory = vec![Memory::Tokens(after.doc), Memory::Tokens(after.back)];
+                let memory = vec![Memory::Tokens(after.doc), Memory::Tokens(after.back), Memory::Counts(after.counts)];
                 Outcome { said: Said::Answer(after.answer), after: memory, counted }
             }
-            Case::List { table, doc, used, list } => {
-                let ran = lists::list(table.grammar.as_ref(), doc, *used, list);
+            Case::List { table, doc, used, list, counts } => {
+                let ran = lists::list(table.grammar.as_ref(), doc, *used, list, counts);
                 let counted = edges::of_list(list, &ran.listed);
-                Outcome { said: Said::Listed(ran.listed), after: vec![Memory::Tokens(ran.doc)], counted }
+                Outcome { said: Said::Listed(ran.listed), after: vec![Memory::Tokens(ran.doc), Memory::Counts(ran.counts)], counted }
+            }
+            Case::Elements { table, counts, name } => {
+                let (number, count) = tally::elements(table.grammar.as_ref(), counts, *name);
+                let counted = edges::of_question(table, *name, number);
+                Outcome { said: Said::Count { number, count }, after: vec![], counted }
             }
             Case::Compare { old, new, element, buffer } => {
                 match compare::compare(old.grammar.as_ref(), new.grammar.as_ref(), *element, buffer.len()) {

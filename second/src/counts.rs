@@ -8,8 +8,8 @@ use std::collections::BTreeMap;
 const ANSWERS: usize = 17;
 
 /// The answers that each kind of call can give. Those of an edit are asked for by operation, and more often than rarely by how its second
-/// buffer (`back`) fits and by what a set finds; those of a list by how many edits it has, which is refused, and by its own faults.
-const CALLS: [(&str, &[usize]); 40] = [
+/// buffer (`back`) fits by where its counts go and by what a set finds; those of a list by how many edits it has, which is refused, and by its own faults.
+const CALLS: [(&str, &[usize]); 51] = [
     ("read", &[0, 1, 5]),
     ("write", &[0, 4, 5]),
     ("translate", &[0, 1, 2, 3, 13]),
@@ -18,11 +18,11 @@ const CALLS: [(&str, &[usize]); 40] = [
     ("import spot", &[0, 2, 14]),
     ("import, translate", &[0, 3]),
     ("check", &[0, 4, 8, 9, 10, 11, 12, 13]),
-    ("insert", &[0, 4, 5, 6, 7, 8, 9, 10, 11, 12, 13]),
-    ("remove", &[0, 4, 5, 6, 7, 8, 9, 10, 11, 12, 13]),
-    ("replace", &[0, 4, 5, 6, 7, 8, 9, 10, 11, 12, 13]),
-    ("set", &[0, 4, 5, 6, 7, 8, 9, 10, 11, 12, 13]),
-    ("drop", &[0, 4, 5, 6, 7, 8, 9, 10, 11, 12, 13]),
+    ("insert", &[0, 4, 5, 6, 7, 8, 9, 10, 11, 12, 13, 15]),
+    ("remove", &[0, 4, 5, 6, 7, 8, 9, 10, 11, 12, 13, 15]),
+    ("replace", &[0, 4, 5, 6, 7, 8, 9, 10, 11, 12, 13, 15]),
+    ("set", &[0, 4, 5, 6, 7, 8, 9, 10, 11, 12, 13, 15]),
+    ("drop", &[0, 4, 5, 6, 7, 8, 9, 10, 11, 12, 13, 15]),
     ("no operation", &[4, 6, 13]),
     ("back just enough", &[0, 7, 8, 9, 10, 11, 12]),
     ("back one short", &[5]),
@@ -36,11 +36,22 @@ const CALLS: [(&str, &[usize]); 40] = [
     ("set replaces", &[0, 5, 8, 12]),
     ("set as it was", &[0, 5, 12]),
     ("steps back", &[0]),
-    ("list", &[0, 4, 5, 6, 7, 8, 9, 10, 11, 12, 13]),
+    ("counts true", &[0, 7, 8, 9, 10, 11, 12]),
+    ("counts to 8,192", &[0]),
+    ("counts to -1", &[15]),
+    ("counts past 8,192", &[15]),
+    ("counts from E on", &[15]),
+    ("counts at i32's ends", &[15]),
+    ("counts out, else", &[0, 7, 8, 9, 10, 12]),
+    ("counts out, no back", &[5]),
+    ("elements", &[0, 13, 15]),
+    ("elements, E to 47", &[0, 15]),
+    ("elements, 48 on", &[0, 15]),
+    ("list", &[0, 4, 5, 6, 7, 8, 9, 10, 11, 12, 13, 15]),
     ("list of one", &[0, 4, 5, 6, 8, 9, 12, 13]),
     ("list of 256", &[0, 4, 6]),
     ("list, first refused", &[4, 5, 6, 8, 9, 10, 12, 13]),
-    ("list, later refused", &[4, 5, 6, 8, 9, 10, 12]),
+    ("list, later refused", &[4, 5, 6, 8, 9, 10, 12, 15]),
     ("list, long piece", &[4]),
     ("list empty", &[4]),
     ("list ends in a head", &[4]),

@@ -1,18 +1,17 @@
-//! The edges of an edit's second buffer and of a list's form, to be counted: each must occur.
+//! The edges of an edit's second buffer, of its counts and of a list's form, to be counted: each must occur.
 
 use crate::case::Table;
 use crate::paper::answer;
-use crate::paper::edits::{self, Edit, LONGEST_BACK, SET};
+use crate::paper::edits::{Edit, Looked, LONGEST_BACK, SET};
+use crate::paper::grammar::Grammar;
 use crate::paper::lists::{self, Listed, MOST_EDITS};
+use crate::paper::tally::{self, Tally};
 use crate::paper::MOST_TOKENS;
 
 /// How the second buffer fits, what one that is too short kept from being judged, and what a set finds; each with the number that counts.
-/// Nothing for an edit that is refused before its second buffer is looked at.
-pub fn of(table: &Table, doc: &[u32], used: u64, edit: &Edit, back: &[u32], number: u32) -> Vec<(&'static str, u32)> {
-    let inverse = match edits::inverse(doc, used, edit) {
-        Some(inverse) if number != answer::TABLE => inverse,
-        _ => return Vec::new(),
-    };
+/// Only an edit in form is asked; `again` answers it with another second buffer and with counts that keep nothing back.
+pub fn of(looked: &Looked, edit: &Edit, back: &[u32], number: u32, again: &dyn Fn(&[u32]) -> u32) -> Vec<(&'static str, u32)> {
+    let inverse = &looked.inverse;
     let needed = inverse.numbers().len();
     let mut edges = Vec::new();
     if back.len() < 4 {
@@ -22,8 +21,7 @@ pub fn of(table: &Table, doc: &[u32], used: u64, edit: &Edit, back: &[u32], numb
         edges.push(("back just enough", number));
     }
     if back.len() < needed {
-        let with_room = edits::edit(table.grammar.as_ref(), doc, used, edit, &[0; LONGEST_BACK]);
-        edges.push(("back short, else", with_room.answer.number));
+        edges.push(("back short, else", again(&[0; LONGEST_BACK])));
     }
     if back.len() + 1 == needed {
         edges.push(("back one short", number));
@@ -38,6 +36,56 @@ pub fn of(table: &Table, doc: &[u32], used: u64, edit: &Edit, back: &[u32], numb
             false => "set adds",
         };
         edges.push((what, number));
+    }
+    edges
+}
+
+/// Where the counts stand after the edit, and what counts that are out kept from being judged. One whose second buffer is too short besides
+/// has a row of its own.
+pub fn of_counts(
+    looked: &Looked,
+    grammar: &Grammar,
+    back: &[u32],
+    counts: &Tally,
+    number: u32,
+    again: &dyn Fn(&[u32]) -> u32,
+) -> Vec<(&'static str, u32)> {
+    let after = tally::moved(counts, &looked.moved, grammar);
+    let is_out = |count: &i64| !(0..=8_192).contains(count);
+    let mut edges = Vec::new();
+    if number == answer::ROOM {
+        if after.iter().any(is_out) {
+            edges.push(("counts out, no back", number));
+        }
+        return edges;
+    }
+    if tally::declared(&looked.before, grammar) == *counts {
+        edges.push(("counts true", number));
+    }
+    if counts.iter().any(|count| [i32::MIN, i32::MAX].contains(count)) {
+        edges.push(("counts at i32's ends", number));
+    }
+    if !after.iter().any(is_out) {
+        if after.contains(&8_192) {
+            edges.push(("counts to 8,192", number));
+        }
+        return edges;
+    }
+    if !after[..grammar.elements.len()].iter().any(is_out) {
+        edges.push(("counts from E on", number));
+    }
+    if counts.iter().all(|count| (0..=8_192).contains(count)) {
+        edges.push((if after.contains(&-1) { "counts to -1" } else { "counts past 8,192" }, number));
+    }
+    edges.push(("counts out, else", again(back)));
+    edges
+}
+
+/// The question by its name: below E, from E on.
+pub fn of_question(table: &Table, name: u32, number: u32) -> Vec<(&'static str, u32)> {
+    let mut edges = vec![("elements", number)];
+    if table.grammar.as_ref().map_or(false, |grammar| name as usize >= grammar.elements.len()) {
+        edges.push((if name < 48 { "elements, E to 47" } else { "elements, 48 on" }, number));
     }
     edges
 }

@@ -137,7 +137,7 @@ impl Lender {
 
 /// The bytes of a slice of numbers.
 pub fn bytes_of<T: Copy>(numbers: &[T]) -> &[u8] {
-    // Used for u8, u32 and u64, which have no gaps; the bytes live as long as the numbers.
+    // Used for u8, u32, i32 and u64, which have no gaps; the bytes live as long as the numbers.
     unsafe { std::slice::from_raw_parts(numbers.as_ptr() as *const u8, std::mem::size_of_val(numbers)) }
 }
 

@@ -24,7 +24,7 @@ pub struct Order {
 
 /// On which side of their fields the buffers of a case stand, one bit each.
 fn sides(number: u64) -> u8 {
-    ((number + number / SLOTS) % 16) as u8
+    ((number + number / SLOTS) % 32) as u8
 }
 
 /// The case of a number. The slots before it are made too, as a run of edits hangs on them.

@@ -3,6 +3,7 @@
 use crate::case::{Case, Table};
 use crate::paper::edits::Edit;
 use crate::paper::program::Files;
+use crate::paper::tally::Tally;
 use crate::paper::{schema_file, table};
 use std::collections::HashMap;
 use std::fmt::Display;
@@ -38,26 +39,34 @@ pub fn save(folder: &Path, case: &Case, sides: u8) -> Result<()> {
             fs::write(folder.join("text.dtd"), text)?;
             write_numbers(folder, "buffer.txt", buffer)?;
         }
-        Case::Check { table, doc, used } => {
+        Case::Check { table, doc, used, counts } => {
             save_table(folder, table)?;
             write_numbers(folder, "doc.txt", doc)?;
+            write_numbers(folder, "counts.txt", counts)?;
             small += &format!("used {used}\n");
         }
-        Case::Edit { table, doc, used, edit, back, give } => {
+        Case::Edit { table, doc, used, edit, back, counts, give } => {
             save_table(folder, table)?;
             write_numbers(folder, "doc.txt", doc)?;
             write_numbers(folder, "piece.txt", &edit.piece)?;
             write_numbers(folder, "back.txt", back)?;
+            write_numbers(folder, "counts.txt", counts)?;
             if let Some(tokens) = give {
                 write_numbers(folder, "give.txt", tokens)?;
             }
             small += &format!("used {used}\noperation {}\nplace {}\n", edit.operation, edit.place);
         }
-        Case::List { table, doc, used, list } => {
+        Case::List { table, doc, used, list, counts } => {
             save_table(folder, table)?;
             write_numbers(folder, "doc.txt", doc)?;
             write_numbers(folder, "list.txt", list)?;
+            write_numbers(folder, "counts.txt", counts)?;
             small += &format!("used {used}\n");
+        }
+        Case::Elements { table, counts, name } => {
+            save_table(folder, table)?;
+            write_numbers(folder, "counts.txt", counts)?;
+            small += &format!("name {name}\n");
         }
         Case::Compare { old, new, element, buffer } => {
             for (name, table) in [("old", old), ("new", new)] {
@@ -107,13 +116,19 @@ pub fn load(folder: &Path) -> Result<(Case, u8)> {
         "names" => Case::Names { text: fs::read(folder.join("text.dtd"))?, buffer: numbers(folder, "buffer.txt")? },
         "spot" => Case::Spot { text: fs::read(folder.join("text.dtd"))? },
         "imported" => Case::Imported { text: fs::read(folder.join("text.dtd"))?, buffer: numbers(folder, "buffer.txt")? },
-        "check" => Case::Check { table: load_table(folder)?, doc: numbers(folder, "doc.txt")?, used: number(&small, "used")? },
+        "check" => Case::Check {
+            table: load_table(folder)?,
+            doc: numbers(folder, "doc.txt")?,
+            used: number(&small, "used")?,
+            counts: counts(folder)?,
+        },
         "edit" => Case::Edit {
             table: load_table(folder)?,
             doc: numbers(folder, "doc.txt")?,
             used: number(&small, "used")?,
             edit: Edit { operation: number(&small, "operation")?, place: number(&small, "place")?, piece: numbers(folder, "piece.txt")? },
             back: numbers(folder, "back.txt")?,
+            counts: counts(folder)?,
             give: if folder.join("give.txt").exists() { Some(numbers(folder, "give.txt")?) } else { None },
         },
         "list" => Case::List {
@@ -121,7 +136,9 @@ pub fn load(folder: &Path) -> Result<(Case, u8)> {
             doc: numbers(folder, "doc.txt")?,
             used: number(&small, "used")?,
             list: numbers(folder, "list.txt")?,
+            counts: counts(folder)?,
         },
+        "elements" => Case::Elements { table: load_table(folder)?, counts: counts(folder)?, name: number(&small, "name")? },
         "compare" => Case::Compare {
             old: load_table(&folder.join("old"))?,
             new: load_table(&folder.join("new"))?,
@@ -150,6 +167,10 @@ fn load_table(folder: &Path) -> Result<Rc<Table>> {
 fn numbers<T: FromStr>(folder: &Path, name: &str) -> Result<Vec<T>> {
     let text = fs::read_to_string(folder.join(name))?;
     text.split_whitespace().map(|number| number.parse().map_err(|_| bad("no number"))).collect()
+}
+
+fn counts(folder: &Path) -> Result<Tally> {
+    Tally::try_from(numbers(folder, "counts.txt")?).map_err(|_| bad("not 48 counts"))
 }
 
 fn number<T: FromStr>(small: &HashMap<&str, &str>, name: &str) -> Result<T> {

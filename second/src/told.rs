@@ -16,6 +16,7 @@ impl Case {
             Case::Check { .. } => "check",
             Case::Edit { .. } => "edit",
             Case::List { .. } => "list",
+            Case::Elements { .. } => "elements",
             Case::Compare { .. } => "compare",
             Case::Program(_) => "program",
         }
@@ -31,11 +32,11 @@ impl Case {
             Case::Names { text, buffer } => format!("names: room for {} bytes\n  text {}", buffer.len(), quoted(text)),
             Case::Spot { text } => format!("import spot\n  text {}", quoted(text)),
             Case::Imported { text, .. } => format!("import and translate\n  text {}", quoted(text)),
-            Case::Check { table, doc, used } => {
+            Case::Check { table, doc, used, .. } => {
                 format!("check: {}, buffer of {}, used {used}\n  document {}", table_in_words(table), doc.len(), short(doc))
             }
-            Case::Edit { table, doc, used, edit, back, give } => format!(
-                "{} (operation {}) at {}{}: {}, buffers of {} and {}, used {used}\n  document {}\n  piece of {}: {}",
+            Case::Edit { table, doc, used, edit, back, counts, give } => format!(
+                "{} (operation {}) at {}{}: {}, buffers of {} and {}, used {used}\n  document {}\n  piece of {}: {}\n  counts {counts:?}",
                 operation_name(edit.operation),
                 edit.operation,
                 edit.place,
@@ -47,8 +48,8 @@ impl Case {
                 edit.piece.len(),
                 short(&edit.piece)
             ),
-            Case::List { table, doc, used, list } => format!(
-                "list of {} numbers, {} whole edits: {}, buffer of {}, used {used}\n  document {}\n  list {}",
+            Case::List { table, doc, used, list, counts } => format!(
+                "list of {} numbers, {} whole edits: {}, buffer of {}, used {used}\n  document {}\n  list {}\n  counts {counts:?}",
                 list.len(),
                 lists::front(list).0.len(),
                 table_in_words(table),
@@ -56,6 +57,7 @@ impl Case {
                 short(doc),
                 short(list)
             ),
+            Case::Elements { table, counts, name } => format!("elements of name {name}: {}, counts {counts:?}", table_in_words(table)),
             Case::Compare { old, new, element, buffer } => {
                 format!("compare element {element}: old {}, new {}, room for {}", table_in_words(old), table_in_words(new), buffer.len())
             }

@@ -3,7 +3,8 @@
 use second::paper::edits::{edit, Answer, Edit, LONGEST_BACK};
 use second::paper::grammar::Grammar;
 use second::paper::lists::{edits_of, list, numbers_of, Listed, Ran};
-use second::paper::{numbers, schema_file, table};
+use second::paper::tally::{fresh, Tally, MIDDLE};
+use second::paper::{numbers, schema_file, table, tree};
 use shrikemuff::raw as library;
 
 const SCHEMA: [u32; 28] = [4, 0, 2, 5, 0, 4, 6, 3, 8, 1, 0, 0, 0, 2, 2, 3, 7, 1, 1, 1, 0, 1, 0, 0, 1, 2, 2, 0];
@@ -21,15 +22,31 @@ fn lent() -> Vec<u32> {
     buffer
 }
 
+fn true_counts(doc: &[u32], used: u64) -> Tally {
+    fresh(&tree::document(doc, used).expect("a document"), &grammar())
+}
+
 /// What a list leaves: this program's and the archive's.
 fn ran(numbers: &[u32]) -> Ran {
-    let expected = list(Some(&grammar()), &lent(), 15, numbers);
+    let mut counts = true_counts(&lent(), 15);
+    let expected = list(Some(&grammar()), &lent(), 15, numbers, &counts);
     let (table, mut doc) = (table::of(&grammar()), lent());
-    let said =
-        unsafe { library::shrike_list(table.as_ptr(), table.len(), doc.as_mut_ptr(), doc.len(), 15, numbers.as_ptr(), numbers.len()) };
+    let said = unsafe {
+        library::shrike_list(
+            table.as_ptr(),
+            table.len(),
+            doc.as_mut_ptr(),
+            doc.len(),
+            15,
+            numbers.as_ptr(),
+            numbers.len(),
+            counts.as_mut_ptr(),
+        )
+    };
     let Answer { number, place, used, change, children } = expected.listed.last;
     assert_eq!(said, library::Listed { last: library::Answer { number, place, used, change, children }, done: expected.listed.done });
-    assert_eq!(doc, expected.doc);
+    assert_eq!((&doc, counts), (&expected.doc, expected.counts));
+    assert_eq!(counts, true_counts(&doc, used), "true counts stay true");
     expected
 }
 
@@ -74,10 +91,13 @@ fn faults_of_the_list() {
     assert_eq!(said(&[&[4, 0, 9, 1][..], &set.repeat(300)].concat()[..9]), refused(4), "the first met from the front");
     assert_eq!(ran(&set.repeat(257)).doc, lent());
     // Before 13 and shape 4, which are answers of the first edit.
-    assert_eq!(list(None, &lent(), 15, &set.repeat(257)).listed.last.number, 5);
-    assert_eq!(list(None, &lent(), 99, &set).listed.last, Answer { number: 13, place: 0, used: 99, change: 0, children: 0 });
-    assert_eq!(list(Some(&grammar()), &lent(), 99, &set).listed.last, Answer { number: 4, place: 0, used: 99, change: 0, children: 0 });
-    assert_eq!(list(Some(&grammar()), &lent(), 99, &[]).listed.last.number, 4);
+    assert_eq!(list(None, &lent(), 15, &set.repeat(257), &MIDDLE).listed.last.number, 5);
+    assert_eq!(list(None, &lent(), 99, &set, &MIDDLE).listed.last, Answer { number: 13, place: 0, used: 99, change: 0, children: 0 });
+    assert_eq!(
+        list(Some(&grammar()), &lent(), 99, &set, &MIDDLE).listed.last,
+        Answer { number: 4, place: 0, used: 99, change: 0, children: 0 }
+    );
+    assert_eq!(list(Some(&grammar()), &lent(), 99, &[], &MIDDLE).listed.last.number, 4);
 }
 
 /// "A piece over 8,192 tokens that is all there is its edit's own 4": what was done before it stands.
@@ -96,11 +116,11 @@ fn a_long_piece() {
 fn single_calls() {
     let edits = edits_of(&[&EDITS[3..10], &EDITS[17..]].concat()).expect("three edits");
     for count in 1..=edits.len() {
-        let (mut doc, mut last) = (lent(), Answer { number: 0, place: 0, used: 15, change: 0, children: 0 });
+        let (mut doc, mut last, mut counts) = (lent(), Answer::refused(0, 0, 15), true_counts(&lent(), 15));
         for asked in &edits[..count] {
-            let after = edit(Some(&grammar()), &doc, last.used, asked, &[0; LONGEST_BACK]);
-            (doc, last) = (after.doc, after.answer);
+            let after = edit(Some(&grammar()), &doc, last.used, asked, &[0; LONGEST_BACK], &counts);
+            (doc, last, counts) = (after.doc, after.answer, after.counts);
         }
-        assert_eq!(ran(&numbers_of(&edits[..count])), Ran { listed: Listed { last, done: count as u32 }, doc });
+        assert_eq!(ran(&numbers_of(&edits[..count])), Ran { listed: Listed { last, done: count as u32 }, doc, counts });
     }
 }

@@ -4,6 +4,7 @@
 use second::case::{Case, Memory, Outcome, Said};
 use second::make::group::{Group, SLOTS};
 use second::paper::grammar::{Content, Grammar};
+use second::paper::tally::fresh;
 use second::paper::tree::{self, Element};
 use second::random::Random;
 
@@ -43,7 +44,7 @@ fn rows(root: &Element, grammar: &Grammar) -> [usize; 3] {
 fn rows_of_no_text_one_and_two() {
     let (mut empty_kept, mut one_kept, mut two_refused, mut cleared) = (0, 0, 0, 0);
     each_case(300, CHECKS_AND_EDITS, &mut |case, outcome| match (case, &outcome.said) {
-        (Case::Check { table, doc, used }, Said::Verdict(verdict)) => {
+        (Case::Check { table, doc, used, .. }, Said::Verdict(verdict)) => {
             if let (Some(grammar), Some(root)) = (&table.grammar, tree::document(doc, *used)) {
                 let rows = rows(&root, grammar);
                 empty_kept += usize::from(verdict.number == 0 && rows[0] > 0);
@@ -114,7 +115,7 @@ fn children_looked_at() {
     let (mut roots, mut texts) = (0, 0);
     each_case(200, CHECKS_AND_EDITS, &mut |case, outcome| {
         let (edit, answer, after) = match (case, &outcome.said, &outcome.after[..]) {
-            (Case::Edit { edit, .. }, Said::Answer(answer), [Memory::Tokens(after), _]) => (edit, answer, after),
+            (Case::Edit { edit, .. }, Said::Answer(answer), [Memory::Tokens(after), ..]) => (edit, answer, after),
             _ => return,
         };
         if answer.number != 0 {
@@ -141,6 +142,35 @@ fn children_looked_at() {
         assert!(row.iter().zip(can_be).all(|(count, can_be)| if can_be { *count >= 5 } else { *count == 0 }), "{by_operation:?}");
     }
     assert!(roots >= 20 && texts >= 20, "{roots} {texts}");
+}
+
+/// "If the counts were true before, they are true after every edit, done or refused", lists included; a valid check writes true ones.
+#[test]
+fn true_counts_stay_true() {
+    let mut kept = [0; 3];
+    each_case(120, CHECKS_AND_EDITS, &mut |case, outcome| {
+        let (table, doc, used, counts) = match case {
+            Case::Check { table, doc, used, counts } | Case::Edit { table, doc, used, counts, .. } => (table, doc, *used, counts),
+            _ => return,
+        };
+        let (grammar, root) = match (&table.grammar, tree::document(doc, used)) {
+            (Some(grammar), Some(root)) => (grammar, root),
+            _ => return,
+        };
+        match (&outcome.said, &outcome.after[..]) {
+            (Said::Verdict(verdict), [Memory::Counts(after)]) => {
+                assert_eq!(*after, if verdict.number == 0 { fresh(&root, grammar) } else { *counts });
+                kept[2] += 1;
+            }
+            (Said::Answer(answer), [Memory::Tokens(doc), _, Memory::Counts(after)]) if fresh(&root, grammar) == *counts => {
+                assert_eq!(*after, fresh(&tree::document(doc, answer.used).expect("shape stays"), grammar));
+                assert_ne!(answer.number, 15, "true counts never meet it");
+                kept[usize::from(answer.number == 0)] += 1;
+            }
+            _ => {}
+        }
+    });
+    assert!(kept.iter().all(|count| *count >= 300), "{kept:?}");
 }
 
 /// An edit that steps back is done, gives the document before it, and by every operation; whole runs are stepped back.

@@ -3,9 +3,10 @@
 use second::paper::edits::{edit, Answer, Edit, Edited};
 use second::paper::expression::Expression;
 use second::paper::grammar::Grammar;
-use second::paper::judgement::{check, Verdict};
+use second::paper::judgement::{check, check_counting, Verdict};
 use second::paper::program::{printed, Files};
-use second::paper::{numbers, occurrences, schema_file, table};
+use second::paper::tally::fresh;
+use second::paper::{numbers, occurrences, schema_file, table, tree};
 use shrikemuff::raw as library;
 
 const SCHEMA: [u32; 29] = [4, 0, 2, 5, 0, 4, 6, 3, 8, 1, 0, 0, 0, 2, 2, 3, 7, 1, 1, 1, 0, 1, 0, 0, 1, 2, 2, 0, 99];
@@ -29,9 +30,10 @@ fn translated(file: &[u8]) -> (u32, Vec<u64>) {
 /// The verdict on the document, which is this program's and the archive's.
 fn verdict(used: u64) -> Verdict {
     let (_, table) = translated(&schema_file_bytes());
-    let said = unsafe { library::shrike_check(table.as_ptr(), table.len(), DOCUMENT.as_ptr(), DOCUMENT.len(), used) };
-    let judged = check(Some(&grammar()), &DOCUMENT, used);
-    assert_eq!(judged, Verdict { number: said.number, place: said.place });
+    let mut counts = [-5; 48];
+    let (judged, after) = check_counting(Some(&grammar()), &DOCUMENT, used, &counts);
+    let said = unsafe { library::shrike_check(table.as_ptr(), table.len(), DOCUMENT.as_ptr(), DOCUMENT.len(), used, counts.as_mut_ptr()) };
+    assert_eq!((judged, after), (Verdict { number: said.number, place: said.place }, counts));
     judged
 }
 
@@ -56,7 +58,8 @@ fn edited(operation: u32, place: u64, piece: &[u32], back_room: usize) -> Edited
 /// The same of any document of the small shade.
 fn edited_again(buffer: &[u32], used_before: u64, asked: &Edit, back_room: usize) -> Edited {
     let old_back = vec![8; back_room];
-    let expected = edit(Some(&grammar()), buffer, used_before, asked, &old_back);
+    let mut counts = fresh(&tree::document(buffer, used_before).expect("a document"), &grammar());
+    let expected = edit(Some(&grammar()), buffer, used_before, asked, &old_back, &counts);
     let Answer { number, place, used, change, children } = expected.answer;
     assert_eq!(i64::from(change), used as i64 - used_before as i64);
     let (_, table) = translated(&schema_file_bytes());
@@ -74,10 +77,12 @@ fn edited_again(buffer: &[u32], used_before: u64, asked: &Edit, back_room: usize
             asked.piece.len(),
             back.as_mut_ptr(),
             back.len(),
+            counts.as_mut_ptr(),
         )
     };
     assert_eq!((said.number, said.place, said.used, said.change, said.children), (number, place, used, change, children));
-    assert_eq!((&doc, &back), (&expected.doc, &expected.back));
+    assert_eq!((&doc, &back, counts), (&expected.doc, &expected.back, expected.counts));
+    assert_eq!(counts, fresh(&tree::document(&doc, used).expect("a document"), &grammar()), "true counts stay true");
     if number != 0 {
         assert_eq!((&doc[..], back, children), (buffer, old_back, 0), "a refusal changes nothing and has looked at nothing");
     }

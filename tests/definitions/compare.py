@@ -45,7 +45,7 @@ OPERATIONS = {1: 'insert', 2: 'remove', 3: 'replace', 4: 'set', 5: 'drop'}
 # edit of a valid document never gives 7. Rows in brackets count the edits once
 # more: by the document that they start from, by how the second buffer fits (and
 # what is said where it is long enough), and sets by what they find.
-ALL = {0, 4, 5, 6, 7, 8, 9, 10, 11, 12, 13}
+ALL = {0, 4, 5, 6, 7, 8, 9, 10, 11, 12, 13, 15}
 REQUIRED = {
     'read': {0, 1, 5},
     'write': {0, 4, 5},
@@ -78,7 +78,9 @@ REQUIRED = {
     '(second buffer)': {'of 0', 'of 1', 'of 2', 'of 3', 'just enough', 'one short', 'short, else 0', 'short, else 8',
                         'short, else 9', 'short, else 12', 'steps back'},
     '(set)': {'adds', 'replaces', 'as it was'},
+    '(counts)': {'true', 'at -1', 'at 8193', 'at %d' % -2 ** 31, 'at %d' % (2 ** 31 - 1)},
     'list': ALL,
+    'elements': {0, 13, 15},
     '(list)': {'empty', 'ends inside', '257th begun', 'of 256', 'first refused', 'later refused'},
     'printed': {'lines', 'check not 0', 'stop 1', 'stop 2', 'stop 3', 'stop 5'},
 }
@@ -701,6 +703,17 @@ class Maker:
         length = r.choice([need] * 5 + [need + 1, need + 3, need + 6, need - 1, need - 1, r.randrange(4), r.randrange(need)])
         return [r.choice([0, 1, 98, 2 ** 32 - 1]) for _ in range(length)]
 
+    def counts(self, true, out=False):
+        """Mostly true ones; else one of them or all are any."""
+        r = self.r
+        numbers = [-1, -1, 0, 1, 2, 8190, 8191, 8192, 8193, 8193, -2 ** 31, 2 ** 31 - 1]
+        counts = list(true)
+        if out or self.chance(0.08):
+            counts[r.choice([0, 1, 2, 3, r.randrange(48)])] = r.choice(numbers)
+        elif self.chance(0.03):
+            counts = [r.choice(numbers + [r.randrange(-2 ** 31, 2 ** 31)]) for _ in counts]
+        return counts
+
     # -- tables
 
     def own_table(self, context, wish=True):
@@ -851,9 +864,11 @@ def proper_case(table):
                 told(call='proper', table=term(table), expected=good))
 
 
-def check_case(context, buffer, used):
-    """Of the context's table, and of its schema if it has one."""
-    number, place = ref.check(context.table, buffer, used)
+def check_case(context, buffer, used, counts=None):
+    """Of the context's table, and of its schema if it has one. The counts are
+    any, if none are given."""
+    counts = counts or [-7] * ref.NAMES
+    number, place, counted = ref.check_counts(context.table, buffer, used, counts)
     own = context.file is None
     terms = []
 
@@ -864,19 +879,30 @@ def check_case(context, buffer, used):
 
     add('check, own table' if own and context.good else 'check', 'check table %s %d' % (term(buffer), used))
     if not own:
-        agree('check', (number, place), ref.check_by_schema(context.schema, buffer, used))
+        agree('check', (number, place, counted), ref.check_counts_by_schema(context.schema, buffer, used, counts))
         add('checking', 'checking (ofSchema s) %s %d' % (term(buffer), used))
-    lines = 'check %d | %s' % (used, plain(buffer)), '%d %d' % (number, place)
-    return Case(terms, told(call='check', buffer=buffer, used=used, expected=(number, place)), lines=lines)
+    lines = 'check %d | %s | %s' % (used, plain(buffer), plain(counts)), '%d %d | %s' % (number, place, plain(counted))
+    return Case(terms, told(call='check', buffer=buffer, used=used, counts=counts, expected=(number, place, counted)), lines=lines)
 
 
-def edit_case(context, buffer, used, operation, place, piece, second=None):
-    """With a second buffer that has two places more than needed, if none is given."""
+def true_counts(context, buffer, used):
+    """Those of the document, if it is one."""
+    try:
+        ref.document(buffer, used)
+        return ref.starts(buffer[:used], context.rules)
+    except (ref.Refused, AttributeError):
+        return [0] * ref.NAMES
+
+
+def edit_case(context, buffer, used, operation, place, piece, second=None, counts=None):
+    """With a second buffer that has two places more than needed, and with true
+    counts, if none are given."""
+    counts = counts or true_counts(context, buffer, used)
     need = ref.needed(buffer, used, operation, place, piece)
     if second is None:
         second = [98] * ((need or 3) + 2)
-    answer = ref.edit(context.table, buffer, used, operation, place, piece, second)
-    number, where, length, change, children, after, back = answer
+    answer = ref.edit(context.table, buffer, used, operation, place, piece, second, counts)
+    number, where, length, change, children, after, back, counted = answer
     own = context.file is None
     name = OPERATIONS.get(operation, 'other')
     terms = []
@@ -895,7 +921,7 @@ def edit_case(context, buffer, used, operation, place, piece, second=None):
     parts = '%s %d %s %s' % (term(buffer), used, request(operation, place, piece), term(second))
     add('edit, own table' if own and context.good else 'edit ' + name, 'edit table ' + parts)
     if not own:
-        agree('edit', answer, ref.edit_by_schema(context.schema, buffer, used, operation, place, piece, second))
+        agree('edit', answer, ref.edit_by_schema(context.schema, buffer, used, operation, place, piece, second, counts))
         add('editBy ' + name, 'outcome %s %d %s (editBy (ofSchema s) %s)' % (term(buffer), used, term(second), parts))
     rows = []
     if context.good:
@@ -904,19 +930,26 @@ def edit_case(context, buffer, used, operation, place, piece, second=None):
             rows.append(('(invalid before)' if before else '(valid before)', number))
         if need is not None:
             rows += edges(context, buffer, used, operation, place, piece, second, need)
+        if counts == true_counts(context, buffer, used) and before != 4:
+            rows.append(('(counts)', 'true'))
+            agree('true counts', (True, counted), (number != 15, true_counts(context, after, length)))
         if before == 0 and number == 0:
-            undone = ref.edit_by_schema(context.rules, after, length, *ref.stepping_back(back), [0] * ref.BACK)
+            undone = ref.edit_by_schema(context.rules, after, length, *ref.stepping_back(back), [0] * ref.BACK, counted)
             agree('stepping back', (0, 0, used, -change), undone[:4])
-            agree('stepping back', buffer[:used], undone[5][:used])
-    lines = ('edit %d %d %d | %s | %s | %s' % (used, operation, place, plain(buffer), plain(piece), plain(second)),
-             '%s | %s | %s' % (plain(answer[:5]), plain(after), plain(back)))
+            agree('stepping back', (buffer[:used], counts), (undone[5][:used], undone[7]))
+    if number == 15:
+        rows.append(('(counts)', 'at %d' % max(counts, key=lambda count: abs(2 * count - ref.TOKENS))))
+    lines = ('edit %d %d %d | %s | %s | %s | %s' %
+             (used, operation, place, plain(buffer), plain(piece), plain(second), plain(counts)),
+             '%s | %s | %s | %s' % (plain(answer[:5]), plain(after), plain(back), plain(counted)))
     return Case(terms, told(call='edit', buffer=buffer, used=used, operation=operation, place=place, piece=piece,
-                            expected=answer), rows, lines)
+                            counts=counts, expected=answer), rows, lines)
 
 
 def edges(context, buffer, used, operation, place, piece, second, need):
     """How the second buffer fits, and what a set finds."""
-    with_room = ref.edit_by_schema(context.rules, buffer, used, operation, place, piece, [0] * need)
+    with_room = ref.edit_by_schema(context.rules, buffer, used, operation, place, piece, [0] * need,
+                                   true_counts(context, buffer, used))
     if with_room[0] == 5:
         return []
     labels = []
@@ -935,10 +968,12 @@ def edges(context, buffer, used, operation, place, piece, second, need):
     return rows
 
 
-def list_case(context, buffer, used, numbers):
-    answer = ref.list_edit(context.table, buffer, used, numbers)
+def list_case(context, buffer, used, numbers, counts=None):
+    """With true counts, if none are given."""
+    counts = counts or true_counts(context, buffer, used)
+    answer = ref.list_edit(context.table, buffer, used, numbers, counts)
     if context.file is not None:
-        agree('list', answer, ref.list_by_schema(context.schema, buffer, used, numbers))
+        agree('list', answer, ref.list_by_schema(context.schema, buffer, used, numbers, counts))
     try:
         edits = ref.edits_of(numbers)
         rows = [('list', answer[0])]
@@ -948,9 +983,15 @@ def list_case(context, buffer, used, numbers):
             rows.append(('(list)', 'of 256'))
     except ref.Refused as refused:
         rows = [('(list)', '257th begun' if refused.number == 5 else 'ends inside' if numbers else 'empty')]
-    lines = ('list %d | %s | %s' % (used, plain(buffer), plain(numbers)),
-             '%s | %s' % (plain(answer[:6]), plain(answer[6])))
-    return Case([], told(call='list', buffer=buffer, used=used, numbers=numbers, expected=answer), rows, lines)
+    lines = ('list %d | %s | %s | %s' % (used, plain(buffer), plain(numbers), plain(counts)),
+             '%s | %s | %s' % (plain(answer[:6]), plain(answer[6]), plain(answer[7])))
+    return Case([], told(call='list', buffer=buffer, used=used, numbers=numbers, counts=counts, expected=answer), rows, lines)
+
+
+def elements_case(context, counts, name):
+    number, count = ref.elements(context.table, counts, name)
+    lines = 'elements %d | %s' % (name, plain(counts)), '%d %d' % (number, count)
+    return Case([], told(call='elements', counts=counts, name=name, expected=(number, count)), [('elements', number)], lines)
 
 
 def plain(numbers):
@@ -1242,7 +1283,8 @@ class Cases:
                     break
                 asked = self.make.edit(context, tree, r.choice([1, 1, 2, 3, 4, 4, 5, 0]))
                 edits += [asked[0], asked[1], len(asked[2])] + asked[2]
-                _, _, used, _, _, buffer, _ = ref.edit(table, buffer, used, *asked, [0] * ref.BACK)
+                _, _, used, _, _, buffer, _, _ = ref.edit(table, buffer, used, *asked, [0] * ref.BACK,
+                                                         true_counts(context, buffer, used))
             if any(number > LARGEST for number in edits):
                 continue
             edits = ref.file_of(edits)
@@ -1331,7 +1373,7 @@ class Cases:
             buffer, used = self.make.buffer(tokens)
             number = 13 if not context.good else ref.check_by_schema(context.rules, buffer, used)[0]
             if wanted in (None, number):
-                return self.add(check_case(context, buffer, used), context)
+                return self.add(check_case(context, buffer, used, self.make.counts([self.r.choice([-7, 3])] * 48)), context)
         raise SystemExit('no check with answer %s' % wanted)
 
     def edit(self, operation=None, wanted=None, contexts=None, row=None):
@@ -1350,10 +1392,11 @@ class Cases:
                 tokens = self.make.change_tokens(tokens)
             buffer, used = self.make.buffer(tokens)
             second = self.make.second(buffer, used, op, place, piece)
+            counts = self.make.counts(true_counts(context, buffer, used), wanted == 15 or row and row[0] == '(counts)')
             number = 13 if not context.good else \
-                ref.edit_by_schema(context.rules, buffer, used, op, place, piece, second)[0]
+                ref.edit_by_schema(context.rules, buffer, used, op, place, piece, second, counts)[0]
             if wanted in (None, number):
-                case = edit_case(context, buffer, used, op, place, piece, second)
+                case = edit_case(context, buffer, used, op, place, piece, second, counts)
                 if row is None or row in case.rows:
                     return self.add(case, context)
         raise SystemExit('no edit %s with answer %s' % (operation, row or wanted))
@@ -1370,7 +1413,8 @@ class Cases:
             for _ in range(20):
                 asked = self.make.edit(context, ref.tree_of(buffer[:used]), self.r.choice([1, 1, 2, 3, 3, 4, 4, 5]))
                 second = [98] * ((ref.needed(buffer, used, *asked) or 3) + self.r.choice([0, 0, 2]))
-                number, _, length, _, _, after, back = ref.edit_by_schema(context.rules, buffer, used, *asked, second)
+                number, _, length, _, _, after, back, _ = ref.edit_by_schema(context.rules, buffer, used, *asked, second,
+                                                                            true_counts(context, buffer, used))
                 if number == 0:
                     self.add(edit_case(context, buffer, used, *asked, second), context)
                     steps.append(ref.stepping_back(back))
@@ -1381,9 +1425,19 @@ class Cases:
             case = edit_case(context, buffer, used, *asked, [98] * ref.needed(buffer, used, *asked))
             case.rows.append(('(second buffer)', 'steps back'))
             self.add(case, context)
-            number, _, used, _, _, buffer, _ = ref.edit_by_schema(context.rules, buffer, used, *asked, [0] * ref.BACK)
+            number, _, used, _, _, buffer, _, _ = ref.edit_by_schema(context.rules, buffer, used, *asked, [0] * ref.BACK,
+                                                                     true_counts(context, buffer, used))
             agree('stepping back', number, 0)
         agree('a run stepped back', buffer[:used], first)
+
+    def question(self, wanted=None):
+        r = self.r
+        while True:
+            context = r.choice(self.contexts if wanted != 13 else self.improper())
+            name = r.choice([0, 1, 2, 3, 4, 47, 48, 2 ** 32 - 1])
+            case = elements_case(context, self.make.counts([r.choice([0, 1, 8192]) for _ in range(48)], wanted == 15), name)
+            if wanted is None or ('elements', wanted) in case.rows:
+                return self.add(case, context)
 
     def listing(self, wanted=None, row=None):
         """Edits that are done, then one that is not looked at; or a list with
@@ -1402,7 +1456,8 @@ class Cases:
                 if root is None:
                     break
                 asked = self.make.edit(guide, root, r.choice([1, 1, 2, 3, 3, 4, 4, 5, 0]), 0.1)
-                number, _, length, _, _, after, _ = ref.edit_by_schema(guide.rules, after, length, *asked, [0] * ref.BACK)
+                number, _, length, _, _, after, _, _ = ref.edit_by_schema(guide.rules, after, length, *asked, [0] * ref.BACK,
+                                                                         true_counts(guide, after, length))
                 edits.append(asked)
                 if number and self.make.chance(0.7):
                     break
@@ -1412,7 +1467,8 @@ class Cases:
                 numbers += r.choice([[], [], [], ref.list_numbers([fill] * (ref.EDITS - len(edits))),
                                      ref.list_numbers([fill] * (ref.EDITS + 1))])
                 numbers = r.choice([numbers, numbers, numbers[:-1], numbers + [1], [], numbers + [2, 1, 1]])
-            case = list_case(context, buffer, used, numbers)
+            counts = self.make.counts(true_counts(context, buffer, used), wanted == 15)
+            case = list_case(context, buffer, used, numbers, counts)
             if (wanted is None or ('list', wanted) in case.rows) and (row is None or row in case.rows):
                 return self.add(case, context)
         raise SystemExit('no list with answer %s' % (row or wanted))
@@ -1603,6 +1659,10 @@ class Cases:
                 self.check(number, self.own())
             elif call == 'edit, own table':
                 self.edit(None, number, self.own())
+            elif call == 'elements':
+                self.question(number)
+            elif call == '(counts)':
+                self.edit(None, None if number == 'true' else 15, row=(call, number))
             elif call == 'list':
                 self.listing(number)
             elif call == '(list)':
@@ -1622,7 +1682,7 @@ class Cases:
                 (self.comparison, 5)]
         checks = sorted(REQUIRED['check'])
         pairs = [(op, number) for op, name in OPERATIONS.items() for number in sorted(REQUIRED['editBy ' + name])]
-        ways += [(self.run_back, 1), (self.listing, 8), (lambda: self.check(), 4), (lambda: self.check(r.choice(checks)), 10),
+        ways += [(self.run_back, 1), (self.listing, 8), (self.question, 2), (lambda: self.check(), 4), (lambda: self.check(r.choice(checks)), 10),
                  (lambda: self.check(r.choice([None, 0, 9]), self.own()), 6),
                  (lambda: self.edit(), 8), (lambda: self.edit(None, 0), 16),
                  (lambda: self.edit(*r.choice(pairs)), 20),
@@ -1805,7 +1865,7 @@ def compared_with(program, cases):
     bad = [pair for pair in zip(wanted, answers) if pair[0][0].lines[1].split() != pair[1].split()]
     for (case, context), answer in bad[:5]:
         print('schema file: %s\n%s\n    second: %s\n' % (context.file, case.told, answer))
-    print('%d checks, edits and lists of both programs, %d differ' % (len(wanted), len(bad)))
+    print('%d checks, edits, lists and questions of both programs, %d differ' % (len(wanted), len(bad)))
     return 1 if bad else 0
 
 

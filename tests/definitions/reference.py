@@ -21,6 +21,7 @@ FILE = 65536             # most bytes of a file of the edit program
 SEQUENCE = 4290          # fewest places for a lost sequence
 BACK = 3 + TOKENS        # most numbers of an edit that takes another one back
 EDITS = 256              # most edits of a list
+NAMES = 48               # counts of elements kept beside a document
 
 START, END, TEXT, ATTRIBUTE, VALUE = 1, 2, 3, 4, 5
 CDATA, ID, IDREF, IDREFS = 0, 1, 2, 3
@@ -733,6 +734,43 @@ def check(table, buffer, used):
     return check_by_schema(rules_of(table), buffer, used)
 
 
+# ----------------------------------------------------------------- counts
+
+def starts(tokens, schema):
+    """How many elements of each name below E start in these tokens: 48 counts."""
+    out = [0] * NAMES
+    for token in tokens:
+        if token % 8 == START and token // 8 < len(schema.elements):
+            out[token // 8] += 1
+    return out
+
+
+def in_range(counts):
+    return all(0 <= count <= TOKENS for count in counts)
+
+
+def check_counts_by_schema(schema, buffer, used, counts):
+    """(number, place, counts after): a check that says valid writes them (item 7)."""
+    number, place = check_by_schema(schema, buffer, used)
+    return number, place, list(counts) if number else starts(buffer[:used], schema)
+
+
+def check_counts(table, buffer, used, counts):
+    """(number, place, counts after)"""
+    if not proper(table):
+        return 13, 0, list(counts)
+    return check_counts_by_schema(rules_of(table), buffer, used, counts)
+
+
+def elements(table, counts, name):
+    """(number, how many elements have this name)"""
+    if not proper(table):
+        return 13, 0
+    if not in_range(counts):
+        return 15, 0
+    return 0, counts[name] if name < table[0] else 0
+
+
 # ------------------------------------------------------------------ edits
 
 def piece_of(operation, piece):
@@ -834,9 +872,9 @@ def changed(root, operation, place, given):
     return root, there, [], back
 
 
-def edit_by_schema(schema, buffer, used, operation, place, piece, second):
+def edit_by_schema(schema, buffer, used, operation, place, piece, second, counts):
     """(number, place, used after, change, children looked at, buffer after,
-    second buffer after)"""
+    second buffer after, counts after)"""
     try:
         root = document(buffer, used)
         if not 1 <= operation <= 5:
@@ -849,22 +887,27 @@ def edit_by_schema(schema, buffer, used, operation, place, piece, second):
         inverse = [other, place, len(old)] + old        # item 2
         if len(second) < len(inverse):
             raise Refused(5)
+        # item 7: what comes less what goes, of names below E
+        comes, goes = starts(piece, schema), starts(old, schema)
+        moved = [count + more - less for count, more, less in zip(counts, comes, goes)]
+        if not in_range(moved):
+            raise Refused(15)
         judge(schema, root, new_ones if parent is None else [parent] + new_ones)
     except Refused as refused:
-        return refused.number, refused.place, used, 0, 0, list(buffer), list(second)
+        return refused.number, refused.place, used, 0, 0, list(buffer), list(second), list(counts)
     length = len(tokens)
     after = tokens + [0] * (used - length) + list(buffer[max(used, length):])
     # item 10: those of the touched parent, plus those of every element in the piece
     children = (0 if parent is None else len(parent.children)) + sum(len(one.children) for one in new_ones)
-    return 0, 0, length, length - used, children, after, inverse + list(second[len(inverse):])
+    return 0, 0, length, length - used, children, after, inverse + list(second[len(inverse):]), moved
 
 
-def edit(table, buffer, used, operation, place, piece, second):
+def edit(table, buffer, used, operation, place, piece, second, counts):
     """(number, place, used after, change, children looked at, buffer after,
-    second buffer after)"""
+    second buffer after, counts after)"""
     if not proper(table):
-        return 13, 0, used, 0, 0, list(buffer), list(second)
-    return edit_by_schema(rules_of(table), buffer, used, operation, place, piece, second)
+        return 13, 0, used, 0, 0, list(buffer), list(second), list(counts)
+    return edit_by_schema(rules_of(table), buffer, used, operation, place, piece, second, counts)
 
 
 def needed(buffer, used, operation, place, piece):
@@ -904,32 +947,32 @@ def list_numbers(edits):
     return [number for operation, place, piece in edits for number in [operation, place, len(piece)] + piece]
 
 
-def list_by_schema(schema, buffer, used, numbers):
+def list_by_schema(schema, buffer, used, numbers, counts):
     """(number, place, used after, change, children looked at, edits done,
-    buffer after). The first five are the last answer."""
-    last, done, after = (0, 0, used, 0, 0), 0, list(buffer)
+    buffer after, counts after). The first five are the last answer."""
+    last, done, after, counts = (0, 0, used, 0, 0), 0, list(buffer), list(counts)
     try:
         edits = edits_of(numbers)
     except Refused as refused:
-        return refused.number, 0, used, 0, 0, 0, after
+        return refused.number, 0, used, 0, 0, 0, after, counts
     for one in edits:
-        *last, after, _ = edit_by_schema(schema, after, last[2], *one, [0] * BACK)
+        *last, after, _, counts = edit_by_schema(schema, after, last[2], *one, [0] * BACK, counts)
         if last[0]:
             break
         done += 1
-    return tuple(last) + (done, after)
+    return tuple(last) + (done, after, counts)
 
 
-def list_edit(table, buffer, used, numbers):
+def list_edit(table, buffer, used, numbers, counts):
     """(number, place, used after, change, children looked at, edits done,
-    buffer after)"""
+    buffer after, counts after)"""
     if proper(table):
-        return list_by_schema(rules_of(table), buffer, used, numbers)
+        return list_by_schema(rules_of(table), buffer, used, numbers, counts)
     try:
-        number = edit(table, buffer, used, *edits_of(numbers)[0], [0] * BACK)[0]
+        number = edit(table, buffer, used, *edits_of(numbers)[0], [0] * BACK, counts)[0]
     except Refused as refused:
         number = refused.number
-    return number, 0, used, 0, 0, 0, list(buffer)
+    return number, 0, used, 0, 0, 0, list(buffer), list(counts)
 
 
 # ---------------------------------------------------------------- compare
@@ -1000,7 +1043,7 @@ def run(schema_file, doc_file, edits_file, out):
     number, used, buffer = read(doc_file, [0] * TOKENS)
     if number:
         raise Refused(number)
-    number, place = check(table, buffer, used)
+    number, place, counts = check_counts(table, buffer, used, [0] * NAMES)
     out.append('0 %d %d %d' % (number, place, used))
     if number:
         return
@@ -1013,7 +1056,8 @@ def run(schema_file, doc_file, edits_file, out):
         if count > TOKENS:
             raise Refused(5)
         piece = [source.next() for _ in range(count)]
-        number, place, used, _, _, buffer, _ = edit(table, buffer, used, operation, place, piece, [0] * BACK)
+        number, place, used, _, _, buffer, _, counts = \
+            edit(table, buffer, used, operation, place, piece, [0] * BACK, counts)
         line += 1
         out.append('%d %d %d %d' % (line, number, place, used))
 
@@ -1081,25 +1125,30 @@ def self_test():
     same(check(table, SHADE_DOC, 15), (0, 0))
     same(check_by_schema(schema, SHADE_DOC, 15), (0, 0))
 
+    ones = [1, 1, 1, 1] + [0] * 44           # the true counts of the small shade
+
     def step_back(table, before, got):
         """A done edit is taken back by what it left in the second buffer, and
         made again by what that leaves, each in the same buffer."""
-        _, _, used, change, children, buffer, second = got
-        back = edit(table, buffer, used, *stepping_back(second), [97] * BACK)
+        _, _, used, change, children, buffer, second, counts = got
+        same(counts, starts(buffer[:used], schema))            # true ones stay true
+        back = edit(table, buffer, used, *stepping_back(second), [97] * BACK, counts)
+        same(back[7], ones)
         same(back[:4], (0, 0, len(before), -change))
         same(back[5][:len(before)], before)
-        again = edit(table, back[5], back[2], *stepping_back(back[6]), second)
+        again = edit(table, back[5], back[2], *stepping_back(back[6]), second, ones)
         same(again[:5], (0, 0, used, change, children))
+        same(again[7], counts)
         same(again[5][:used], buffer[:used])
         same(again[6], second)
 
     def try_edit(operation, place, piece, wanted, children=None):
         room = SHADE_DOC + [99] * 10
         second = [98] * 30
-        got = edit(table, room, 15, operation, place, piece, second)
-        same(edit_by_schema(schema, room, 15, operation, place, piece, second), got)
+        got = edit(table, room, 15, operation, place, piece, second, ones)
+        same(edit_by_schema(schema, room, 15, operation, place, piece, second, ones), got)
         if wanted[0]:
-            same(got, (wanted[0], wanted[1], 15, 0, 0, room, second))
+            same(got, (wanted[0], wanted[1], 15, 0, 0, room, second, ones))
         else:
             step_back(table, SHADE_DOC, got)
             same(got[:4], (0, 0, wanted[1], wanted[1] - 15))
@@ -1152,11 +1201,12 @@ def self_test():
     def try_back(operation, place, piece, inverse):
         room = SHADE_DOC + [99] * 10
         for length in (len(inverse), len(inverse) + 2, BACK):
-            got = edit(table, room, 15, operation, place, piece, [98] * length)
+            got = edit(table, room, 15, operation, place, piece, [98] * length, ones)
             same(got[:2], (0, 0))
             same(got[6], inverse + [98] * (length - len(inverse)))
         for length in range(len(inverse)):
-            same(edit(table, room, 15, operation, place, piece, [98] * length), (5, 0, 15, 0, 0, room, [98] * length))
+            same(edit(table, room, 15, operation, place, piece, [98] * length, ones),
+                 (5, 0, 15, 0, 0, room, [98] * length, ones))
 
     try_back(1, 10, [9, 12, 173, 2], [2, 10, 0])
     try_back(1, 14, [25, 20, 165, 2], [2, 14, 0])
@@ -1168,25 +1218,26 @@ def self_test():
     try_back(4, 0, [4, 69], [4, 0, 2, 4, 61])
     try_back(4, 0, [4, 61], [4, 0, 2, 4, 61])
     room = SHADE_DOC + [99] * 10
-    same(edit(table, room, 15, 2, 3, [], [98] * 9)[:2], (5, 0))          # before judgement
-    same(edit(table, room, 15, 2, 3, [], [98] * 10)[:2], (9, 3))
-    same(edit(table, room, 15, 2, 1, [], [])[:2], (6, 0))                # after the place
-    same(edit(table, room, 15, 4, 3, [4, 61], [98] * 3)[:2], (5, 0))     # taken back by a drop
-    same(edit(table, room, 15, 4, 3, [4, 61], [98] * 4)[:2], (8, 3))
+    same(edit(table, room, 15, 2, 3, [], [98] * 9, ones)[:2], (5, 0))          # before judgement
+    same(edit(table, room, 15, 2, 3, [], [98] * 10, ones)[:2], (9, 3))
+    same(edit(table, room, 15, 2, 1, [], [], ones)[:2], (6, 0))                # after the place
+    same(edit(table, room, 15, 4, 3, [4, 61], [98] * 3, ones)[:2], (5, 0))     # taken back by a drop
+    same(edit(table, room, 15, 4, 3, [4, 61], [98] * 4, ones)[:2], (8, 3))
 
     # lists (item 6)
     def try_list(numbers, wanted):
         """The last answer without the children, and the edits done."""
         room = SHADE_DOC + [99] * 10
-        got = list_edit(table, room, 15, numbers)
-        same(list_by_schema(schema, room, 15, numbers), got)
+        got = list_edit(table, room, 15, numbers, ones)
+        same(list_by_schema(schema, room, 15, numbers, ones), got)
         same(got[:4] + got[5:6], wanted)
-        after, used = room, 15
+        after, used, counts = room, 15, ones
         for one in edits_of(numbers)[:got[5]] if got[5] else []:
-            single = edit(table, after, used, *one, [98] * BACK)
+            single = edit(table, after, used, *one, [98] * BACK, counts)
             same(single[0], 0)
-            after, used = single[5], single[2]
-        same((after, used), (got[6], got[2]))
+            after, used, counts = single[5], single[2], single[7]
+        same((after, used, counts), (got[6], got[2], got[7]))
+        same(counts, starts(after[:used], schema))
         return got
 
     set_title = [4, 0, 2, 4, 69]
@@ -1206,9 +1257,58 @@ def self_test():
     try_list([9, 9, 2 ** 32 - 1], (4, 0, 15, 0, 0))
     try_list([2, 10, 0, 4, 0, 8193, 4] + [69] * 8192, (4, 0, 11, 0, 1))  # all there: its edit's own 4
     try_list([2, 10, 0, 4, 0, 8192, 4] + [69] * 8191, (5, 0, 11, 0, 1))
-    same(list_edit([], SHADE_DOC, 99, set_title * 257), (5, 0, 99, 0, 0, 0, SHADE_DOC))
-    same(list_edit([], SHADE_DOC, 99, set_title), (13, 0, 99, 0, 0, 0, SHADE_DOC))
-    same(list_edit(table, SHADE_DOC, 99, set_title), (4, 0, 99, 0, 0, 0, SHADE_DOC))
+    same(list_edit([], SHADE_DOC, 99, set_title * 257, ones), (5, 0, 99, 0, 0, 0, SHADE_DOC, ones))
+    same(list_edit([], SHADE_DOC, 99, set_title, ones), (13, 0, 99, 0, 0, 0, SHADE_DOC, ones))
+    same(list_edit(table, SHADE_DOC, 99, set_title, ones), (4, 0, 99, 0, 0, 0, SHADE_DOC, ones))
+
+    # counts (item 7)
+    def with_counts(operation, place, piece, counts, wanted, length=30):
+        """The counts, and those after it or the number of the refusal; zeros
+        behind those given."""
+        counts = counts + [0] * (NAMES - len(counts))
+        got = edit(table, room, 15, operation, place, piece, [98] * length, counts)
+        same(edit_by_schema(schema, room, 15, operation, place, piece, [98] * length, counts), got)
+        if isinstance(wanted, int):
+            same(got, (wanted, 0, 15, 0, 0, room, [98] * length, counts))
+        else:
+            same((got[0], got[7]), (0, wanted + [0] * (NAMES - len(wanted))))
+
+    use = [25, 20, 165, 2]
+    with_counts(1, 3, [9, 12, 173, 17, 3, 2, 17, 2, 2], [1, 1, 1, 1], [1, 2, 3, 1])
+    with_counts(2, 10, [], [1, 1, 1, 1], [1, 1, 1, 0])
+    with_counts(2, 7, [], [1, 1, 1, 1], [1, 1, 1, 1])
+    with_counts(3, 3, [9, 12, 165, 17, 2, 17, 2, 2], [1, 1, 1, 1], [1, 1, 2, 1])
+    with_counts(3, 0, [1, 4, 61, 9, 12, 173, 2, 9, 12, 181, 2, 2], [1, 1, 1, 1], [1, 2, 0, 0])
+    with_counts(1, 10, use, [1, 1, 1, TOKENS - 1], [1, 1, 1, TOKENS])
+    with_counts(1, 10, use, [1, 1, 1, TOKENS], 15)
+    with_counts(2, 10, [], [1, 1, 1, 0], 15)
+    with_counts(1, 10, use, [1, 1, 1, -1], [1, 1, 1, 0])
+    with_counts(2, 10, [], [1, 1, 1, TOKENS + 1], [1, 1, 1, TOKENS])
+    with_counts(1, 10, use, [1, 1, 1, 2 ** 31 - 1], 15)
+    with_counts(2, 10, [], [1, 1, 1, -2 ** 31], 15)
+    for number in (-1, TOKENS + 1, 2 ** 31 - 1, -2 ** 31):
+        for name in (0, 3, 4, 47):
+            with_counts(4, 0, [4, 69], ones[:name] + [number] + ones[name + 1:], 15)
+            with_counts(5, 0, [4], ones[:name] + [number] + ones[name + 1:], 15)
+    with_counts(2, 3, [], [-1], 5, 9)                        # after both 5s, before judgement
+    with_counts(2, 3, [], [-1], 15, 10)
+    with_counts(2, 1, [], [-1], 6)
+    same(check_counts(table, SHADE_DOC, 15, [-7] * NAMES), (0, 0, ones))
+    same(check_counts(table, SHADE_DOC, 14, [-7] * NAMES), (4, 0, [-7] * NAMES))
+    same(check_counts([], SHADE_DOC, 15, [-7] * NAMES), (13, 0, [-7] * NAMES))
+    # element 4 is not declared: counted nowhere
+    fifth = ones[:4] + [TOKENS] + ones[5:]
+    same(edit(table, [1, 4, 61, 9, 12, 165, 2, 33, 2, 2], 10, 2, 7, [], [0] * 9, fifth)[7], fifth)
+    same(elements(table, [1, TOKENS, 0, 7, 9] + [0] * 43, 1), (0, TOKENS))
+    same([elements(table, [1, TOKENS, 0, 7, 9] + [0] * 43, name)[1] for name in (3, 4, 47, 48, 2 ** 32 - 1)], [7, 0, 0, 0, 0])
+    same(elements(table, ones[:47] + [-1], 99), (15, 0))
+    same(elements(table, ones[:4] + [TOKENS + 1] + ones[5:], 0), (15, 0))
+    same(elements(table[1:], [-1] * NAMES, 0), (13, 0))
+    panels = [1, 10, 4, 9, 12, 173, 2]
+    full = [1, TOKENS - 1, 1, 1] + [0] * 44
+    got = list_edit(table, room, 15, panels + [1, 10, 4, 9, 12, 181, 2], full)
+    same((got[0], got[5], got[7]), (15, 1, [1, TOKENS] + ones[2:]))
+    same(list_edit(table, room, 15, panels[:-1], [-1] * NAMES)[::7], (4, [-1] * NAMES))      # the list's own fault
 
     # where content stops (item 3)
     try_edit(1, 10, [243], (9, 10))
@@ -1246,9 +1346,10 @@ def self_test():
     nest = translate(file_of([1, 0, 2, 2, 2, 5, 0]), [0] * TABLE)[1]
     same(check(nest, [1] * 64 + [2] * 64, 128), (0, 0))
     same(check(nest, [1] * 65 + [2] * 65, 130), (4, 0))
-    same(edit(nest, [1] * 63 + [2] * 63 + [0] * 4, 126, 1, 63, [1, 1, 2, 2], [0] * 3)[:4], (5, 0, 126, 0))
-    same(edit(nest, [1] * 63 + [2] * 63 + [0] * 4, 126, 1, 63, [1, 2], [0] * 3)[:4], (0, 0, 128, 2))
-    same(edit(nest, [1] * 63 + [2] * 63 + [0] * 4, 126, 1, 63, [1] * 65 + [2] * 65, [0] * 3)[:2], (4, 0))
+    deep = [63] + [0] * 47
+    same(edit(nest, [1] * 63 + [2] * 63 + [0] * 4, 126, 1, 63, [1, 1, 2, 2], [0] * 3, deep)[:4], (5, 0, 126, 0))
+    same(edit(nest, [1] * 63 + [2] * 63 + [0] * 4, 126, 1, 63, [1, 2], [0] * 3, deep)[:4], (0, 0, 128, 2))
+    same(edit(nest, [1] * 63 + [2] * 63 + [0] * 4, 126, 1, 63, [1] * 65 + [2] * 65, [0] * 3, deep)[:2], (4, 0))
 
     # random models: words found by spelling out the expression, against
     # steps, ambiguity and the run of the table

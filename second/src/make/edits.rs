@@ -2,8 +2,9 @@
 
 use super::documents::{self, Ground, Scale};
 use super::{faults, keys, pieces};
-use crate::paper::edits::{element_at, spot, Edit, Spot, DROP, INSERT, REMOVE, REPLACE, SET};
+use crate::paper::edits::{Edit, DROP, INSERT, REMOVE, REPLACE, SET};
 use crate::paper::grammar::{Content, Kind};
+use crate::paper::spots::{element_at, spot, Spot};
 use crate::paper::tree::{Attribute, Element, Item, Token};
 use crate::paper::MOST_TOKENS;
 use crate::random::Random;

@@ -1,10 +1,10 @@
 //! A group of cases around one schema. Each case is known by its seed and its number: number / SLOTS is the group, the rest the
 //! slot in it. The slots of a group are made in order, as a run of edits goes on from the outcome of the last.
 
-use super::documents::{self, Ground, Scale};
+use super::documents::Scale;
+use super::lent::{lent_changed, lent_document, lent_table, old_words, other_used, Base};
 use super::runs::Run;
-use super::sizes::Sizes;
-use super::{bad_texts, compares, edits, faults, files, lists, programs, schemas, tables, texts};
+use super::{bad_texts, compares, edits, files, lists, programs, schemas, tables, tallies, texts};
 use crate::case::{Case, Outcome, Table};
 use crate::paper::compare::LEAST_ROOM;
 use crate::paper::table::WORDS;
@@ -13,26 +13,8 @@ use crate::random::Random;
 use std::rc::Rc;
 
 /// Slots of a group, and how many of them, the last ones, are runs of the edit program.
-pub const SLOTS: u64 = 108;
+pub const SLOTS: u64 = 110;
 pub const PROGRAM_SLOTS: u64 = 4;
-
-/// A table with what is needed to grow documents for it.
-struct Base {
-    table: Rc<Table>,
-    sizes: Sizes,
-}
-
-impl Base {
-    /// None if the table is not proper.
-    fn new(table: Table) -> Option<Base> {
-        let sizes = documents::sizes_of(table.grammar.as_ref()?);
-        Some(Base { table: Rc::new(table), sizes })
-    }
-
-    fn ground(&self) -> Ground<'_> {
-        Ground { grammar: self.table.grammar.as_ref().expect("a base is proper"), sizes: &self.sizes }
-    }
-}
 
 pub struct Group {
     number: usize,
@@ -73,7 +55,8 @@ impl Group {
             26..=85 => self.edit(random),
             86..=93 => self.text(random, slot - 86),
             94..=97 => self.compare(random),
-            _ if slot < programs_from => self.list(random),
+            98..=103 => self.list(random),
+            _ if slot < programs_from => self.elements(random),
             _ => {
                 let way = (programs * PROGRAM_SLOTS + slot - programs_from) as usize;
                 Case::Program(self.program(random, way % programs::WAYS))
@@ -174,7 +157,7 @@ impl Group {
         let base = if random.chance(75) { &self.schema } else { &self.drawn };
         let (doc, used) = lent_document(random, &base.ground(), self.scale);
         let used = if random.chance(6) { other_used(random, used, doc.len()) } else { used };
-        Case::Check { table: lent_table(random, base), doc, used }
+        Case::Check { table: lent_table(random, base), doc, used, counts: tallies::alone(random) }
     }
 
     fn edit(&mut self, random: &mut Random) -> Case {
@@ -204,83 +187,25 @@ impl Group {
         let (doc, used) = lent_document(random, &base.ground(), self.scale);
         let list = lists::list(random, &base.ground(), &doc, used);
         let used = if random.chance(4) { other_used(random, used, doc.len()) } else { used };
-        Case::List { table: lent_table(random, base), doc, used, list }
+        let table = lent_table(random, base);
+        let counts = tallies::for_list(random, table.grammar.as_ref(), &doc, used, &list);
+        Case::List { table, doc, used, list, counts }
+    }
+
+    /// The question, by a name that is declared or not.
+    fn elements(&self, random: &mut Random) -> Case {
+        let base = if random.chance(75) { &self.schema } else { &self.drawn };
+        let count = base.ground().grammar.elements.len();
+        let name = match random.below(4) {
+            0 => random.below(48) as u32,
+            1 => *random.pick(&[count as u32, 47, 48, 49, 63, 64, 1 << 16, 1 << 31, u32::MAX]),
+            _ => random.below(count) as u32,
+        };
+        Case::Elements { table: lent_table(random, base), counts: tallies::alone(random), name }
     }
 
     fn program(&self, random: &mut Random, way: usize) -> crate::paper::program::Files {
         let schema = self.schema_file();
         programs::files(random, &self.schema.ground(), &schema, way)
-    }
-}
-
-/// The table itself, or now and then one with a changed word or another length.
-fn lent_table(random: &mut Random, base: &Base) -> Rc<Table> {
-    if random.chance(93) {
-        return Rc::clone(&base.table);
-    }
-    lent_changed(random, base)
-}
-
-fn lent_changed(random: &mut Random, base: &Base) -> Rc<Table> {
-    let mut words = base.table.words.clone();
-    match random.chance(80) {
-        true => tables::change_word(random, &mut words),
-        false => tables::change_length(random, &mut words),
-    }
-    Rc::new(Table::of_words(words))
-}
-
-/// A document in its buffer, and its length: grown, grown with faults, or noise.
-fn lent_document(random: &mut Random, ground: &Ground, scale: Scale) -> (Vec<u32>, u64) {
-    let mut root = documents::document(random, ground, scale);
-    let way = random.below(20);
-    if way >= 11 {
-        for _ in 0..random.within(1, 3) {
-            faults::in_tree(random, &mut root, ground.grammar);
-        }
-    }
-    let mut buffer = root.tokens();
-    if way == 19 {
-        match random.chance(70) {
-            true => faults::in_tokens(random, &mut buffer),
-            false => buffer = faults::noise(random, 30),
-        }
-    }
-    let used = buffer.len();
-    let room = match random.below(10) {
-        0 => used,
-        1 => used + 1,
-        2 => used + random.below(12),
-        3 => used + random.below(400),
-        4 | 5 if scale != Scale::Tiny => used.max(8_192),
-        6 if scale != Scale::Tiny => used.max(8_192) + random.below(700),
-        7 if random.chance(40) => 8_192 + random.below(2_000),
-        _ => used + random.below(80),
-    };
-    let behind = files::old_tokens(random, room.saturating_sub(used));
-    buffer.extend(behind);
-    (buffer, used as u64)
-}
-
-/// A used length of any sort.
-fn other_used(random: &mut Random, used: u64, room: usize) -> u64 {
-    match random.below(10) {
-        0 => random.below(3) as u64,
-        1 => used + 1,
-        2 => used.saturating_sub(1),
-        3 => room as u64,
-        4 => room as u64 + 1,
-        5 => used + (1 << 32),
-        6 => *random.pick(&[8_191, 8_192, 8_193, 65_536, 1 << 31, 1 << 32, 1 << 63, u64::MAX]),
-        7 => random.bits(),
-        _ => random.below(room + 2) as u64,
-    }
-}
-
-/// Words that stand in a table buffer before a call.
-fn old_words(random: &mut Random, length: usize) -> Vec<u64> {
-    match random.chance(30) {
-        true => vec![random.bits(); length],
-        false => (0..length).map(|_| random.bits()).collect(),
     }
 }

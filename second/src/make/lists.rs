@@ -5,6 +5,7 @@ use super::programs::{aimed, drawn_until};
 use super::{edits, faults, pieces};
 use crate::paper::edits::{in_place, Answer, Edit, LONGEST_BACK};
 use crate::paper::lists::{front, numbers_of, MOST_EDITS};
+use crate::paper::tally::MIDDLE;
 use crate::paper::{answer, tree};
 use crate::random::Random;
 
@@ -56,7 +57,8 @@ fn wanted(random: &mut Random, ground: &Ground, doc: &[u32], used: u64, number: 
         };
         edit.place = u64::from(edit.place as u32);
         let mut doc = doc.to_vec();
-        let (answer, inverse) = in_place(Some(ground.grammar), &mut doc, used, &edit, LONGEST_BACK);
+        let (answer, looked) = in_place(Some(ground.grammar), &mut doc, used, &edit, LONGEST_BACK, &mut MIDDLE.clone());
+        let inverse = looked.filter(|_| answer.number == answer::DONE).map(|looked| looked.inverse);
         (edit, answer, inverse, doc)
     };
     let tries = if used > 1_000 { 2 } else { 6 };

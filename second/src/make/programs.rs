@@ -2,8 +2,10 @@
 
 use super::documents::{self, Ground, Scale};
 use super::{edits, faults, files, schemas};
-use crate::paper::edits::{self as paper_edits, Edit, Spot, INSERT, LONGEST_BACK, REPLACE};
+use crate::paper::edits::{self as paper_edits, Edit, INSERT, LONGEST_BACK, REPLACE};
 use crate::paper::program::{printed, Files, LONGEST_FILE};
+use crate::paper::spots::{element_at, spot, Spot};
+use crate::paper::tally::MIDDLE;
 use crate::paper::tree::{self, Element};
 use crate::paper::{answer, judgement, numbers, schema_file, DEEPEST, MOST_TOKENS};
 use crate::random::Random;
@@ -113,7 +115,7 @@ fn document_and_edits(random: &mut Random, ground: &Ground, scale: Scale) -> (Ve
         let number = EDIT_ANSWERS[line % EDIT_ANSWERS.len()];
         let mut draw = |random: &mut Random| {
             let edit = in_form(aimed(random, ground, &root, number));
-            let outcome = paper_edits::edit(Some(ground.grammar), &buffer, used, &edit, &[0; LONGEST_BACK]);
+            let outcome = paper_edits::edit(Some(ground.grammar), &buffer, used, &edit, &[0; LONGEST_BACK], &MIDDLE);
             (edit, outcome)
         };
         let tries = if used > 1_000 { 3 } else { 20 };
@@ -146,8 +148,8 @@ pub fn aimed(random: &mut Random, ground: &Ground, root: &Element, number: u32) 
             let tokens = root.tokens();
             let starts: Vec<usize> = (1..tokens.len()).filter(|place| tokens[*place] % 8 == 1).collect();
             let place = if starts.is_empty() { 0 } else { *random.pick(&starts) as u64 };
-            let piece = match paper_edits::spot(root, place) {
-                Spot::Item(path) => paper_edits::element_at(&mut root.clone(), &path).map_or(vec![], |element| element.tokens()),
+            let piece = match spot(root, place) {
+                Spot::Item(path) => element_at(&mut root.clone(), &path).map_or(vec![], |element| element.tokens()),
                 _ => vec![],
             };
             Edit { operation: INSERT, place, piece }

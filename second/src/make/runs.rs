@@ -1,10 +1,11 @@
 //! A run of edits of one document. Each edit that is done is taken back and made again, by what was read from the second buffer; in the end
 //! the whole run is stepped back.
 
-use super::files;
+use super::{files, tallies};
 use crate::case::{Case, Memory, Outcome, Said, Table};
-use crate::paper::edits::{self, Edit, LONGEST_BACK};
+use crate::paper::edits::{self, Edit, Looked, LONGEST_BACK};
 use crate::paper::judgement;
+use crate::paper::tally::MIDDLE;
 use crate::random::Random;
 use std::rc::Rc;
 
@@ -59,10 +60,13 @@ impl Run {
                 self.steps.pop()?
             }
         };
-        let needed = edits::inverse(&self.buffer, self.used, &step.edit).map_or(3, |inverse| inverse.numbers().len());
+        let looked = edits::looked(&self.buffer, self.used, &step.edit);
+        let needed = looked.as_ref().map_or(3, |looked| looked.inverse.numbers().len());
         let more = if random.chance(50) { 0 } else { random.below(40) };
         let (doc, back) = (self.buffer.clone(), files::old_tokens(random, needed + more));
-        Some(Case::Edit { table: step.table, doc, used: self.used, edit: step.edit, back, give: step.give })
+        // "item 2's way back read[s] true counts as a premise"
+        let counts = tallies::truth(&step.table, looked.as_ref()).unwrap_or(MIDDLE);
+        Some(Case::Edit { table: step.table, doc, used: self.used, edit: step.edit, back, counts, give: step.give })
     }
 
     /// The case of a new edit.
@@ -70,8 +74,11 @@ impl Run {
         self.edits_left -= 1;
         self.turn = Turn::New;
         let doc = self.buffer.clone();
-        let length = back_length(random, edits::inverse(&doc, used, &edit));
-        Case::Edit { table, doc, used, edit, back: files::old_tokens(random, length), give: None }
+        let looked = edits::looked(&doc, used, &edit);
+        let length = back_length(random, looked.as_ref());
+        let back = files::old_tokens(random, length);
+        let counts = tallies::lent(random, tallies::truth(&table, looked.as_ref()), looked.as_ref());
+        Case::Edit { table, doc, used, edit, back, counts, give: None }
     }
 
     /// Goes on from the outcome of the last case. Gives the number of edits of a run that was stepped back whole.
@@ -81,7 +88,7 @@ impl Run {
             _ => return None,
         };
         let (after, back) = match (&outcome.said, &outcome.after[..]) {
-            (Said::Answer(answer), [Memory::Tokens(after), Memory::Tokens(back)]) if answer.number == 0 => {
+            (Said::Answer(answer), [Memory::Tokens(after), Memory::Tokens(back), _]) if answer.number == 0 => {
                 self.used = answer.used;
                 (after, back)
             }
@@ -109,8 +116,8 @@ impl Run {
 }
 
 /// The length of a second buffer: around what is needed.
-fn back_length(random: &mut Random, inverse: Option<Edit>) -> usize {
-    let needed = inverse.map_or(random.below(12), |inverse| inverse.numbers().len());
+fn back_length(random: &mut Random, looked: Option<&Looked>) -> usize {
+    let needed = looked.map_or(random.below(12), |looked| looked.inverse.numbers().len());
     match random.below(40) {
         0..=3 => needed.saturating_sub(1),
         4 | 5 => random.below(4),

@@ -1,8 +1,11 @@
 //! "The five edits", done on the tree and flattened.
 
-use super::answer::{DONE, PLACE, ROOM, SHAPE, TABLE};
+use super::answer::{COUNTS, DONE, PLACE, ROOM, SHAPE, TABLE};
 use super::grammar::Grammar;
 use super::judgement;
+use super::spots::{element_at, holder, spot, Spot};
+use super::table::BLOCKS;
+use super::tally::{self, Tally};
 use super::tree::{self, Attribute, Element, Item, Token};
 use super::{DEEPEST, MOST_TOKENS};
 
@@ -53,12 +56,23 @@ impl Answer {
     }
 }
 
-/// What holds after an edit: the answer, the document's buffer and the second one.
+/// What holds after an edit: the answer, the document's buffer, the second one and the counts.
 #[derive(Clone, Debug, PartialEq)]
 pub struct Edited {
     pub answer: Answer,
     pub doc: Vec<u32>,
     pub back: Vec<u32>,
+    pub counts: Tally,
+    /// If it is in form and the document has room for it.
+    pub looked: Option<Looked>,
+}
+
+/// What an edit in form is about: the edit that takes it back, the elements of each name before it, and those that come less those that go.
+#[derive(Clone, Debug, PartialEq)]
+pub struct Looked {
+    pub inverse: Edit,
+    pub before: [i64; BLOCKS],
+    pub moved: [i64; BLOCKS],
 }
 
 /// A good piece of one of the five operations.
@@ -70,46 +84,47 @@ enum Piece {
     Drop(u16),
 }
 
-/// What stands at a place of a document. A path is the way from the root: each number counts items of one content.
-#[derive(Clone, Debug, PartialEq)]
-pub enum Spot {
-    /// The start of an element, or a text.
-    Item(Vec<usize>),
-    /// The end of an element.
-    End(Vec<usize>),
-    /// An attribute or a value, or no token at all.
-    Other,
-}
-
-/// An edit of the document in a buffer, with a second buffer for what takes it back.
-pub fn edit(grammar: Option<&Grammar>, buffer: &[u32], used: u64, edit: &Edit, back: &[u32]) -> Edited {
-    let (mut doc, mut back) = (buffer.to_vec(), back.to_vec());
-    let (answer, inverse) = in_place(grammar, &mut doc, used, edit, back.len());
-    if let Some(inverse) = inverse {
-        let inverse = inverse.numbers();
+/// An edit of the document in a buffer, with a second buffer for what takes it back, and the counts.
+pub fn edit(grammar: Option<&Grammar>, buffer: &[u32], used: u64, edit: &Edit, back: &[u32], counts: &Tally) -> Edited {
+    let (mut doc, mut back, mut counts) = (buffer.to_vec(), back.to_vec(), *counts);
+    let (answer, looked) = in_place(grammar, &mut doc, used, edit, back.len(), &mut counts);
+    if let (DONE, Some(looked)) = (answer.number, &looked) {
+        let inverse = looked.inverse.numbers();
         back[..inverse.len()].copy_from_slice(&inverse);
     }
-    Edited { answer, doc, back }
+    Edited { answer, doc, back, counts, looked }
 }
 
-/// Edits the document in its buffer. Gives what takes it back, if it is done.
-pub fn in_place(grammar: Option<&Grammar>, doc: &mut [u32], used: u64, edit: &Edit, back_room: usize) -> (Answer, Option<Edit>) {
-    match edited(grammar, doc, used, edit, back_room) {
-        Err((number, place)) => (Answer::refused(number, place, used), None),
-        Ok((root, inverse)) => {
+/// Edits the document in its buffer and the counts.
+pub fn in_place(
+    grammar: Option<&Grammar>,
+    doc: &mut [u32],
+    used: u64,
+    edit: &Edit,
+    back_room: usize,
+    counts: &mut Tally,
+) -> (Answer, Option<Looked>) {
+    let (grammar, (root, looked)) = match grammar.ok_or(TABLE).and_then(|grammar| Ok((grammar, prepared(doc, used, edit)?))) {
+        Ok(prepared) => prepared,
+        Err(number) => return (Answer::refused(number, 0, used), None),
+    };
+    let answer = match judged(grammar, &root, &looked, back_room, counts) {
+        Err((number, place)) => Answer::refused(number, place, used),
+        Ok(after) => {
+            *counts = after;
             let tokens = root.tokens();
             doc[..used as usize].fill(0);
             doc[..tokens.len()].copy_from_slice(&tokens);
             let change = tokens.len() as i64 - used as i64;
-            let children = looked_at(&root);
-            (Answer { number: DONE, place: 0, used: tokens.len() as u64, change: change as i32, children }, Some(inverse))
+            Answer { number: DONE, place: 0, used: tokens.len() as u64, change: change as i32, children: looked_at(&root) }
         }
-    }
+    };
+    (answer, Some(looked))
 }
 
-/// What takes an edit back, if it is in form and the document has room for it.
-pub fn inverse(buffer: &[u32], used: u64, edit: &Edit) -> Option<Edit> {
-    prepared(buffer, used, edit).ok().map(|(_, inverse)| inverse)
+/// What an edit is about, if it is in form and the document has room for it.
+pub fn looked(buffer: &[u32], used: u64, edit: &Edit) -> Option<Looked> {
+    prepared(buffer, used, edit).ok().map(|prepared| prepared.1)
 }
 
 /// The children and texts of all touched elements: of the parent, or of the element that is set or dropped, and of each in the piece.
@@ -123,34 +138,44 @@ fn looked_at(root: &Element) -> u32 {
     count
 }
 
-/// The edited document and the edit that takes it back, or number and place of the refusal.
-fn edited(grammar: Option<&Grammar>, buffer: &[u32], used: u64, edit: &Edit, back_room: usize) -> Result<(Element, Edit), (u32, u32)> {
-    let grammar = grammar.ok_or((TABLE, 0))?;
-    let (root, inverse) = prepared(buffer, used, edit)?;
-    if inverse.numbers().len() > back_room {
+/// What follows for an edited document: the second buffer, the counts, which are given as they are after it, and judgement.
+fn judged(grammar: &Grammar, root: &Element, looked: &Looked, back_room: usize, counts: &Tally) -> Result<Tally, (u32, u32)> {
+    if looked.inverse.numbers().len() > back_room {
         return Err((ROOM, 0));
     }
-    let verdict = judgement::judge(&root, grammar);
+    let counts = tally::kept(&tally::moved(counts, &looked.moved, grammar)).ok_or((COUNTS, 0))?;
+    let verdict = judgement::judge(root, grammar);
     match verdict.number {
-        DONE => Ok((root, inverse)),
+        DONE => Ok(counts),
         number => Err((number, verdict.place)),
     }
 }
 
-/// All that comes before the second buffer and judgement.
-fn prepared(buffer: &[u32], used: u64, edit: &Edit) -> Result<(Element, Edit), (u32, u32)> {
-    let mut root = tree::document(buffer, used).ok_or((SHAPE, 0))?;
+/// The edited document and what the edit is about: all that comes before the second buffer.
+fn prepared(buffer: &[u32], used: u64, edit: &Edit) -> Result<(Element, Looked), u32> {
+    let mut root = tree::document(buffer, used).ok_or(SHAPE)?;
+    let before = tally::names(&root);
+    let (operation, piece) = changed(&mut root, edit, buffer.len())?;
+    let mut moved = tally::names(&root);
+    for (name, count) in moved.iter_mut().enumerate() {
+        *count -= before[name];
+    }
+    Ok((root, Looked { inverse: Edit { operation, place: edit.place, piece }, before, moved }))
+}
+
+/// Does an edit on a tree: "form, place and size". Gives operation and piece of what takes it back.
+pub fn changed(root: &mut Element, edit: &Edit, room: usize) -> Result<(u32, Vec<u32>), u32> {
     if !(INSERT..=DROP).contains(&edit.operation) {
-        return Err((PLACE, 0));
+        return Err(PLACE);
     }
-    let piece = piece_of(edit).ok_or((SHAPE, 0))?;
-    let spot = spot(&root, edit.place);
-    let (operation, piece) = apply(&mut root, spot, piece).ok_or((PLACE, 0))?;
+    let piece = piece_of(edit).ok_or(SHAPE)?;
+    let spot = spot(root, edit.place);
+    let back = apply(root, spot, piece).ok_or(PLACE)?;
     let size = root.size();
-    if size > MOST_TOKENS || root.depth() > DEEPEST || size > buffer.len() {
-        return Err((ROOM, 0));
+    if size > MOST_TOKENS || root.depth() > DEEPEST || size > room {
+        return Err(ROOM);
     }
-    Ok((root, Edit { operation, place: edit.place, piece }))
+    Ok(back)
 }
 
 fn piece_of(edit: &Edit) -> Option<Piece> {
@@ -179,62 +204,6 @@ fn item_of(piece: &[u32]) -> Option<Item> {
     let mut element = tree::element(piece)?;
     element.touch_all();
     Some(Item::Element(element))
-}
-
-/// Finds what stands at a place.
-pub fn spot(root: &Element, place: u64) -> Spot {
-    let mut path = Vec::new();
-    let mut element = root;
-    let mut left = match usize::try_from(place) {
-        Ok(place) if place < root.size() => place,
-        _ => return Spot::Other,
-    };
-    // `left` counts the tokens from the start of `element`, at `path`, to the place, which lies in it.
-    'down: loop {
-        if left == 0 {
-            return Spot::Item(path);
-        }
-        if left < element.head_size() {
-            return Spot::Other;
-        }
-        left -= element.head_size();
-        for (i, item) in element.content.iter().enumerate() {
-            let size = item.size();
-            if left >= size {
-                left -= size;
-                continue;
-            }
-            path.push(i);
-            match item {
-                Item::Text(_) => return Spot::Item(path),
-                Item::Element(child) => {
-                    element = child;
-                    continue 'down;
-                }
-            }
-        }
-        return Spot::End(path);
-    }
-}
-
-/// The element at a path, if the path does not lead to a text.
-pub fn element_at<'a>(root: &'a mut Element, path: &[usize]) -> Option<&'a mut Element> {
-    let mut element = root;
-    for i in path {
-        element = match &mut element.content[*i] {
-            Item::Element(child) => child,
-            Item::Text(_) => return None,
-        };
-    }
-    Some(element)
-}
-
-/// The content that holds the item at a path, its element being touched, and the item's number there. The root has none.
-fn holder<'a>(root: &'a mut Element, path: &[usize]) -> Option<(&'a mut Vec<Item>, usize)> {
-    let (i, above) = path.split_last()?;
-    let parent = element_at(root, above).expect("an item is held by an element");
-    parent.touched = true;
-    Some((&mut parent.content, *i))
 }
 
 /// Does the edit and marks what it touches. Gives operation and piece of what takes it back; None if the place does not suit.

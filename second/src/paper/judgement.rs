@@ -2,6 +2,7 @@
 
 use super::answer::{ATTRIBUTES, CONTENT, DONE, ID_TWICE, NAME, NO_ID, ROOT, SHAPE, TABLE};
 use super::grammar::{Declaration, Grammar, Kind};
+use super::tally::{self, Tally, MIDDLE};
 use super::tree::{self, Element, Item};
 use std::collections::HashSet;
 
@@ -13,15 +14,21 @@ pub struct Verdict {
 
 /// The whole check. Without a grammar the table is not proper.
 pub fn check(grammar: Option<&Grammar>, buffer: &[u32], used: u64) -> Verdict {
+    check_counting(grammar, buffer, used, &MIDDLE).0
+}
+
+/// The whole check, and the counts after it: "written by a check that says valid".
+pub fn check_counting(grammar: Option<&Grammar>, buffer: &[u32], used: u64, counts: &Tally) -> (Verdict, Tally) {
     let grammar = match grammar {
         Some(grammar) => grammar,
-        None => return Verdict { number: TABLE, place: 0 },
+        None => return (Verdict { number: TABLE, place: 0 }, *counts),
     };
     match tree::document(buffer, used) {
-        None => Verdict { number: SHAPE, place: 0 },
+        None => (Verdict { number: SHAPE, place: 0 }, *counts),
         Some(mut root) => {
             root.touch_all();
-            judge(&root, grammar)
+            let verdict = judge(&root, grammar);
+            (verdict, if verdict.number == DONE { tally::fresh(&root, grammar) } else { *counts })
         }
     }
 }

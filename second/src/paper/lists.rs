@@ -3,6 +3,7 @@
 use super::answer::{DONE, ROOM, SHAPE};
 use super::edits::{self, Answer, Edit, LONGEST_BACK};
 use super::grammar::Grammar;
+use super::tally::Tally;
 
 /// "a list of 1 to 256 edits"
 pub const MOST_EDITS: usize = 256;
@@ -15,11 +16,12 @@ pub struct Listed {
     pub done: u32,
 }
 
-/// What holds after a list: what is said, and the document's buffer.
+/// What holds after a list: what is said, the document's buffer and the counts.
 #[derive(Clone, Debug, PartialEq)]
 pub struct Ran {
     pub listed: Listed,
     pub doc: Vec<u32>,
+    pub counts: Tally,
 }
 
 /// The whole edits at the front of a list, up to 256, and what is left behind them.
@@ -49,14 +51,14 @@ pub fn numbers_of(edits: &[Edit]) -> Vec<u32> {
 }
 
 /// A list of edits of the document in a buffer: "It ends at the first refusal; what was done before stands."
-pub fn list(grammar: Option<&Grammar>, buffer: &[u32], used: u64, list: &[u32]) -> Ran {
-    let (mut last, mut done, mut doc) = (Answer::refused(DONE, 0, used), 0, buffer.to_vec());
+pub fn list(grammar: Option<&Grammar>, buffer: &[u32], used: u64, list: &[u32], counts: &Tally) -> Ran {
+    let (mut last, mut done, mut doc, mut counts) = (Answer::refused(DONE, 0, used), 0, buffer.to_vec(), *counts);
     match edits_of(list) {
         Err(number) => last.number = number,
         Ok(edits) => {
             // "Document, last answer and number of edits done are those of single calls", with room for their inverses.
             for edit in &edits {
-                last = edits::in_place(grammar, &mut doc, last.used, edit, LONGEST_BACK).0;
+                last = edits::in_place(grammar, &mut doc, last.used, edit, LONGEST_BACK, &mut counts).0;
                 if last.number != DONE {
                     break;
                 }
@@ -64,5 +66,5 @@ pub fn list(grammar: Option<&Grammar>, buffer: &[u32], used: u64, list: &[u32]) 
             }
         }
     }
-    Ran { listed: Listed { last, done }, doc }
+    Ran { listed: Listed { last, done }, doc, counts }
 }

@@ -12,7 +12,9 @@ pub mod numbers;
 pub mod occurrences;
 pub mod program;
 pub mod schema_file;
+pub mod spots;
 pub mod table;
+pub mod tally;
 pub mod tree;
 
 /// Most tokens of a document, a piece and a document file.
@@ -37,5 +39,6 @@ pub mod answer {
     pub const NO_ID: u32 = 12;
     pub const TABLE: u32 = 13;
     pub const DTD: u32 = 14;
+    pub const COUNTS: u32 = 15;
     pub const KIND: u32 = 16;
 }

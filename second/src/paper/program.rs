@@ -2,6 +2,7 @@
 
 use super::answer::{BROKEN, DONE, ROOM};
 use super::edits::{self, Edit, LONGEST_BACK};
+use super::table::BLOCKS;
 use super::{judgement, numbers, schema_file, MOST_TOKENS};
 
 pub const LONGEST_FILE: usize = 65_536;
@@ -49,7 +50,7 @@ fn run(files: &Files, printed: &mut Printed) -> Result<(), (&'static str, u32)> 
     let mut buffer = numbers::read(doc, MOST_TOKENS).map_err(|number| ("program stop document", number))?;
     let mut used = buffer.len() as u64;
     buffer.resize(MOST_TOKENS, 0);
-    let verdict = judgement::check(Some(&grammar), &buffer, used);
+    let (verdict, mut counts) = judgement::check_counting(Some(&grammar), &buffer, used, &[0; BLOCKS]);
     printed.line(0, verdict.number, verdict.place, used);
     if verdict.number != DONE {
         return Ok(());
@@ -57,10 +58,9 @@ fn run(files: &Files, printed: &mut Printed) -> Result<(), (&'static str, u32)> 
     let mut line = 0;
     while !rest.is_empty() {
         let edit = next_edit(&mut rest).map_err(|number| ("program stop edits", number))?;
-        let edits::Edited { answer, doc, .. } = edits::edit(Some(&grammar), &buffer, used, &edit, &[0; LONGEST_BACK]);
+        let (answer, _) = edits::in_place(Some(&grammar), &mut buffer, used, &edit, LONGEST_BACK, &mut counts);
         line += 1;
         printed.line(line, answer.number, answer.place, answer.used);
-        buffer = doc;
         used = answer.used;
     }
     Ok(())
