@@ -1,6 +1,5 @@
 //! A case: one call with all that is lent to it, and what the paper says of it.
 
-use crate::edges;
 use crate::paper::dtd::{self, Spot};
 use crate::paper::edits::{self, Answer, Edit};
 use crate::paper::grammar::Grammar;
@@ -9,6 +8,7 @@ use crate::paper::lists::{self, Listed};
 use crate::paper::program::{self, Files};
 use crate::paper::tally::{self, Tally, MIDDLE};
 use crate::paper::{answer, compare, numbers, schema_file, table};
+use crate::{edges, fixed_edges};
 use std::rc::Rc;
 
 /// A table to be lent. `grammar` is what it asks for, None if it is not proper; `schema` is the file it was translated from.
@@ -100,7 +100,9 @@ impl Case {
             }
             Case::Translate { file, buffer } => {
                 let (number, words) = split(translate(file, buffer.len()));
-                outcome(Said::Number(number), vec![Memory::Words(over(buffer, &words))], "translate", number)
+                let mut outcome = outcome(Said::Number(number), vec![Memory::Words(over(buffer, &words))], "translate", number);
+                outcome.counted.extend(fixed_edges::of_file(file, number));
+                outcome
             }
             Case::Import { text, buffer } => {
                 let (number, bytes) = split(dtd::import(text, buffer.len()));
@@ -122,7 +124,10 @@ impl Case {
             }
             Case::Check { table, doc, used, counts } => {
                 let (verdict, counts) = judgement::check_counting(table.grammar.as_ref(), doc, *used, counts);
-                outcome(Said::Verdict(verdict), vec![Memory::Counts(counts)], "check", verdict.number)
+                let mut outcome = outcome(Said::Verdict(verdict), vec![Memory::Counts(counts)], "check", verdict.number);
+                outcome.counted.extend(fixed_edges::of_table(&table.words, verdict.number));
+                outcome.counted.extend(table.grammar.as_ref().and_then(|grammar| fixed_edges::of_check(grammar, doc, *used, verdict)));
+                outcome
             }
             Case::Edit { table, doc, used, edit, back, counts, give } => {
                 let after = edits::edit(table.grammar.as_ref(), doc, *used, edit, back, counts);
@@ -132,7 +137,9 @@ impl Case {
                     let again = |back: &[u32]| edits::edit(Some(grammar), doc, *used, edit, back, &MIDDLE).answer.number;
                     counted.extend(edges::of(looked, edit, back, number, &again));
                     counted.extend(edges::of_counts(looked, grammar, back, counts, number, &again));
+                    counted.extend(fixed_edges::of_set(grammar, doc, edit, number));
                 }
+                counted.extend(fixed_edges::of_table(&table.words, number));
                 counted.extend(give.as_ref().map(|_| ("steps back", number)));
                 let memory = vec![Memory::Tokens(after.doc), Memory::Tokens(after.back), Memory::Counts(after.counts)];
                 Outcome { said: Said::Answer(after.answer), after: memory, counted }

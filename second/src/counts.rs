@@ -9,7 +9,7 @@ const ANSWERS: usize = 17;
 
 /// The answers that each kind of call can give. Those of an edit are asked for by operation, and more often than rarely by how its second
 /// buffer (`back`) fits by where its counts go and by what a set finds; those of a list by how many edits it has, which is refused, and by its own faults.
-const CALLS: [(&str, &[usize]); 51] = [
+const CALLS: [(&str, &[usize]); 69] = [
     ("read", &[0, 1, 5]),
     ("write", &[0, 4, 5]),
     ("translate", &[0, 1, 2, 3, 13]),
@@ -58,6 +58,24 @@ const CALLS: [(&str, &[usize]); 51] = [
     ("list ends in a piece", &[4]),
     ("list of 257", &[5]),
     ("list of 256, rest", &[5]),
+    ("fixed, none", &[0]),
+    ("fixed, one", &[0]),
+    ("fixed, 16", &[0]),
+    ("fixed, 17th", &[2]),
+    ("fixed, not CDATA", &[2]),
+    ("fixed, value", &[2]),
+    ("table: 17 fixed", &[13]),
+    ("table: fixed unused", &[13]),
+    ("table: fixed rising", &[13]),
+    ("table: fixed from E", &[13]),
+    ("table: fixed barred", &[13]),
+    ("table: fixed key", &[13]),
+    ("table: fixed needed", &[13]),
+    ("table: fixed value", &[13]),
+    ("fixed right", &[0]),
+    ("fixed wrong", &[8]),
+    ("fixed twice", &[8]),
+    ("set fixed", &[0, 5, 8]),
     ("compare yes", &[0]),
     ("compare no", &[0]),
     ("compare refused", &[5, 6, 13, 16]),

@@ -2,6 +2,7 @@
 
 pub mod case;
 pub mod edges;
+pub mod fixed_edges;
 pub mod make;
 pub mod paper;
 pub mod random;

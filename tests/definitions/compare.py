@@ -340,7 +340,10 @@ class Maker:
             if kind == ID and has:
                 kind = r.choice([CDATA, IDREF, IDREFS])
             has = has or kind == ID
-            out.append((number, kind, r.choice([0, 1])))
+            if kind == CDATA and self.chance(0.4):
+                out.append((number, kind, 2, r.choice([0, 7, 30, 65535])))          # fixed
+            else:
+                out.append((number, kind, r.choice([0, 1])))
         return out
 
     def schema_numbers(self, count=None, names=8, ambiguous=False):
@@ -481,11 +484,14 @@ class Maker:
         r = self.r
         empty = []
         for element in part.elements():
-            kinds = context.rules.elements[element.name].attributes \
-                if element.name < len(context.rules.elements) else {}
+            known = element.name < len(context.rules.elements)
+            kinds = context.rules.elements[element.name].attributes if known else {}
+            fixed = context.rules.elements[element.name].fixed if known else {}
             for number, values in sorted(element.attributes.items()):
                 for k, value in enumerate(values):
-                    if value is None:
+                    if value is None and number in fixed:
+                        values[k] = fixed[number]
+                    elif value is None:
                         empty.append((kinds.get(number, (CDATA, False))[0], values, k))
         for kind, values, k in empty:
             if kind == ID:
@@ -541,6 +547,12 @@ class Maker:
                 some = r.choice(having)
                 values = some.attributes[r.choice(sorted(some.attributes))]
                 values.append(r.choice(values + [5]))
+        elif way == 'fixed':
+            having = [(e, number) for e in elements if e.name < count for number in context.rules.elements[e.name].fixed]
+            if having:
+                some, number = r.choice(having)
+                value = context.rules.elements[some.name].fixed[number]
+                some.attributes[number] = r.choice([[value], [value ^ 1], [value, value], [value, 5]])
         elif way == 'child less':
             having = [e for e in elements if e.children]
             if having:
@@ -621,6 +633,8 @@ class Maker:
         number = r.choice(choices)
         if number in element.attributes and self.chance(0.2):
             return [8 * number + ATTRIBUTE] + [8 * v + VALUE for v in element.attributes[number]]
+        if declared and number in context.rules.elements[element.name].fixed and self.chance(0.7):
+            return [8 * number + ATTRIBUTE, 8 * context.rules.elements[element.name].fixed[number] + VALUE]
         kind = declared.get(number, (CDATA,))[0]
         ids = self.ids(context, root)
         count = r.choice([1, 2, 3]) if kind == IDREFS or self.chance(0.06) else 1
@@ -729,7 +743,7 @@ class Maker:
 
     def change_table(self, table):
         r = self.r
-        way = r.randrange(14)
+        way = r.randrange(17)
         count = min(max(table[0], 1), 48) if len(table) > 1 else 1
         if way == 0 and self.chance(0.3):
             table[:] = r.choice([table[:-1], table + [0], [], table[:r.randrange(len(table) + 1)]])
@@ -769,13 +783,35 @@ class Maker:
         elif way == 12 and n:
             table[base + 10 + r.choice([r.randrange(n)] * 8 + [n % 64, 63])] = \
                 r.choice([r.randrange(count)] * 4 + [count, 48])
+        elif way in (14, 15, 16):
+            self.change_fixed(table)
         elif way == 13 and self.chance(0.2):
             table[r.randrange(TABLE)] = r.choice([0, 1, 2, 2 ** 63, 2 ** 64 - 1])
 
 
+    def change_fixed(self, table):
+        """One number of the fixed attributes, or one entry more."""
+        r = self.r
+        have = min(table[ref.FIXED], ref.MOST_FIXED)
+        at = ref.FIXED + 1 + 3 * r.randrange(max(have, 1))
+        way = r.randrange(5)
+        if way == 0:
+            table[ref.FIXED] = r.choice([0, have + 1, max(have - 1, 0), 16, 17])
+        elif way == 1 and have < ref.MOST_FIXED:
+            e = r.randrange(min(max(table[0], 1), 48))
+            allowed = sorted(ref.Block(table[2 + e * BLOCK:2 + (e + 1) * BLOCK]).allowed)
+            entry = (e, r.choice(allowed + [r.randrange(64)]), r.choice([0, 9, 65535]))
+            entries = [tuple(table[k:k + 3]) for k in range(ref.FIXED + 1, ref.FIXED + 1 + 3 * have, 3)] + [entry]
+            if self.chance(0.8):
+                entries.sort()
+            table[ref.FIXED:ref.FIXED + 1 + 3 * len(entries)] = [len(entries)] + [n for one in entries for n in one]
+        else:
+            table[at + r.randrange(3)] = r.choice([0, 1, 2, 63, 64, 65535, 65536, 2 ** 64 - 1])
+
+
 TREE_WAYS = ['root', 'undeclared', 'rename', 'attribute more', 'attribute less', 'value more', 'child less',
-             'last child', 'child more', 'text', 'same id', 'loose']
-FOR_NUMBER = {7: ['undeclared'], 8: ['attribute more', 'attribute less', 'value more'],
+             'last child', 'child more', 'text', 'same id', 'loose', 'fixed']
+FOR_NUMBER = {7: ['undeclared'], 8: ['attribute more', 'attribute less', 'value more', 'fixed'],
               9: ['child less', 'last child', 'last child', 'child more', 'text', 'rename'], 10: ['root'], 11: ['same id', 'child more', 'value more'],
               12: ['loose', 'attribute less', 'child less']}
 
@@ -1077,6 +1113,18 @@ def improved(shade, last):
         for name in (1, 3, 4, 48):
             out.append(put(shade, (place(0, at), name)))
             out.append(put(last, (place(0, at), name)))
+    # fixed attributes: of element 1, attribute 1 is the ID and attributes 2, 3 and 63 are CDATA here; of element 3, 2 is an IDREF and 3 CDATA
+    fixed = put(shade, (place(1, 1), 14 + top), (place(1, 2), 2), (place(3, 1), 12), (place(3, 2), 4))
+    for count, entries in ((0, []), (1, [1, 2, 0]), (1, [1, 3, 65535]), (1, [1, 3, 65536]), (1, [1, 63, 7]), (2, [1, 2, 0, 1, 3, 0]),
+                           (2, [1, 2, 0, 3, 3, 0]), (2, [1, 3, 0, 1, 2, 0]), (2, [1, 3, 0, 1, 3, 0]), (2, [3, 3, 0, 1, 2, 0]),
+                           (1, [1, 1, 0]), (1, [3, 2, 0]), (1, [1, 4, 0]), (1, [1, 62, 0]), (1, [1, 64, 0]), (1, [1, 67, 0]),
+                           (1, [0, 0, 0]), (1, [4, 2, 0]), (1, [48, 2, 0]), (1, [2, 2, 0]), (1, [1, 2, 0, 1]), (1, [1, 2, 0, 0, 1]),
+                           (0, [1, 2, 0]), (0, [0, 0, 1]), (2, [1, 2, 0]), (16, [1, 2, 0]), (17, [1, 2, 0]), (2 ** 64 - 1, []),
+                           (1, [1, 2, 0] + [0] * 44 + [1]), (1, [2 ** 64 - 1, 2, 0]), (1, [1, 2 ** 64 - 1, 0])):
+        out.append(put(fixed, (ref.FIXED, count), *((ref.FIXED + 1 + k, number) for k, number in enumerate(entries))))
+    # sixteen of one element, and the seventeenth place is none
+    full = put(shade, (place(1, 1), 2 ** 64 - 1), *((ref.FIXED + 1 + 3 * k + j, n) for k in range(16) for j, n in enumerate((1, 2 + k, k))))
+    out += [put(full, (ref.FIXED, count)) for count in (15, 16, 17)]
     return out
 
 
@@ -1106,6 +1154,16 @@ def schema_files():
                        [3, 0, 1, 0, 1, 0, 0, 2, 1] + broken, [2, 0, 1, 0] + broken, [1, 64] + broken):
         out.append(one + [0] + attributes)
         out.append(one + [1] + attributes)
+    # fixed attributes
+    top = ref.groups(65535)
+    for attributes in ([1, 5, 0, 2, 7], [1, 5, 0, 2] + top, [1, 5, 0, 2] + ref.groups(65536), [1, 5, 0, 2], [1, 5, 0, 2] + broken,
+                       [1, 5, 1, 2, 7], [1, 5, 2, 2, 7], [1, 5, 3, 2, 7], [1, 5, 1, 2] + broken, [1, 5, 0, 3, 7], [1, 5, 0, 2, 7, 7],
+                       [2, 5, 0, 2, 7, 5, 0, 1], [2, 5, 0, 2, 7, 6, 0, 1], [2, 5, 0, 1, 6, 0, 2] + top):
+        out.append(one + [0] + attributes)
+    for count in (15, 16, 17):
+        several = [count] + [n for k in range(count) for n in (k, 0, 2, k)]
+        out += [one + [0] + several, [2, 0, 0] + several + [0, 1, 0, 0, 2, 5], [2, 0, 0] + several + [0, 1, 0, 0, 2] + broken,
+                [2, 0, 0] + several + [0, 1, 0, 0, 1]]
     return out
 
 

@@ -15,8 +15,10 @@ sys.setrecursionlimit(20000)
 TOKENS = 8192            # most tokens of a document or a piece
 LARGEST = 2097151        # largest number of a file
 DEPTH = 64               # most elements inside one another
-TABLE = 6626             # numbers of a table
+TABLE = 6675             # numbers of a table
 BLOCK = 138              # numbers of one element in a table
+FIXED = 2 + 48 * BLOCK   # where a table has the count of its fixed attributes, and their entries after it
+MOST_FIXED = 16          # fixed attributes of a schema
 FILE = 65536             # most bytes of a file of the edit program
 SEQUENCE = 4290          # fewest places for a lost sequence
 BACK = 3 + TOKENS        # most numbers of an edit that takes another one back
@@ -300,12 +302,14 @@ class Model:
 
 class Declared:
     """What is declared of one element: kind, attributes
-    {number: (kind, required)} and, for kind 2, a model."""
+    {number: (kind, required)}, for kind 2 a model, and the values of its fixed
+    attributes {number: value}."""
 
-    def __init__(self, kind, attributes, model):
+    def __init__(self, kind, attributes, model, fixed=None):
         self.kind = kind
         self.attributes = attributes
         self.model = model
+        self.fixed = fixed or {}
 
     def content(self):
         return (NoChild(), OneText(), self.model)[self.kind]
@@ -344,6 +348,7 @@ def schema_of(file):
             if model.ambiguous():
                 raise Refused(3)
         attributes = {}
+        fixed = {}
         lowest = 0
         for _ in range(_value(source, 0, 64)):
             number = _value(source, lowest, 63)
@@ -351,9 +356,14 @@ def schema_of(file):
             attribute = _value(source, 0, 3)
             if attribute == ID and ID in [k for k, _ in attributes.values()]:
                 raise Refused(2)
-            required = _value(source, 0, 1) == 0
-            attributes[number] = (attribute, required)
-        elements.append(Declared(kind, attributes, model))
+            status = _value(source, 0, 2)
+            if status == 2:              # item 8
+                earlier = sum(len(element.fixed) for element in elements) + len(fixed)
+                if attribute != CDATA or earlier == MOST_FIXED:
+                    raise Refused(2)
+                fixed[number] = _value(source, 0, 65535)
+            attributes[number] = (attribute, status == 0)
+        elements.append(Declared(kind, attributes, model, fixed))
     if not source.ended():
         raise Refused(2)
     return Schema(root, elements)
@@ -389,6 +399,10 @@ def table_of(schema):
             block += [name.name for name in model.names] + [0] * (64 - n)
             block += [_bits(follow[k]) for k in range(n)] + [0] * (64 - n)
         table += block + [0] * (BLOCK - len(block))
+    table += [0] * (FIXED - len(table))
+    entries = [(e, number, value) for e, element in enumerate(schema.elements)
+               for number, value in sorted(element.fixed.items())]
+    table += [len(entries)] + [part for entry in entries for part in entry]
     return table + [0] * (TABLE - len(table))
 
 
@@ -422,7 +436,12 @@ class Block:
 
 
 def _blocks(table):
-    return [table[at:at + BLOCK] for at in range(2, TABLE, BLOCK)]
+    return [table[at:at + BLOCK] for at in range(2, FIXED, BLOCK)]
+
+
+def _entries(table):
+    """The entries of fixed attributes: element, attribute, value."""
+    return [tuple(table[at:at + 3]) for at in range(FIXED + 1, TABLE, 3)]
 
 
 def proper(table):
@@ -434,7 +453,27 @@ def proper(table):
     blocks = _blocks(table)
     if any(any(numbers) for numbers in blocks[count:]):
         return False
-    return all(_proper_block(Block(numbers), count) for numbers in blocks[:count])
+    return all(_proper_block(Block(numbers), count) for numbers in blocks[:count]) and _proper_fixed(table)
+
+
+def _proper_fixed(table):
+    """Item 8, of a table whose blocks are proper."""
+    count = table[FIXED]
+    if count > MOST_FIXED:
+        return False
+    used, unused = _entries(table)[:count], _entries(table)[count:]
+    if any(map(any, unused)):
+        return False
+    named = [entry[:2] for entry in used]
+    if named != sorted(set(named)):
+        return False
+    for element, attribute, value in used:
+        if element >= table[0] or value > 65535:
+            return False
+        block = Block(_blocks(table)[element])
+        if attribute not in block.allowed - block.required - block.id - block.idref - block.idrefs:
+            return False
+    return True
 
 
 def _proper_block(block, count):
@@ -540,6 +579,8 @@ def rules_of(table):
                     else IDREFS if number in block.idrefs else CDATA)
             attributes[number] = (kind, number in block.required)
         elements.append(Declared(block.kind, attributes, Run(block) if block.kind == 2 else None))
+    for element, attribute, value in _entries(table)[:table[FIXED]]:
+        elements[element].fixed[attribute] = value
     return Schema(table[1], elements)
 
 
@@ -700,6 +741,8 @@ def judge_element(rules, element):
         if number not in declared.attributes:
             raise Refused(8, element.place)
         if len(values) != 1 and declared.attributes[number][0] != IDREFS:
+            raise Refused(8, element.place)
+        if number in declared.fixed and values != [declared.fixed[number]]:
             raise Refused(8, element.place)
     for number, (_, required) in declared.attributes.items():
         if required and number not in element.attributes:
@@ -1329,6 +1372,43 @@ def self_test():
     same(program(files[0] + [0], [128], files[2]), b'stop 2\n')
     same(program(files[0] + [0], [128], None), b'stop 5\n')
     same(program(files[0] + [0], [0] * 65537, []), b'stop 5\n')
+
+    # fixed attributes (item 8)
+    def one_empty(*attributes):
+        """One EMPTY element with these attributes, their count not told."""
+        return translate(file_of([1, 0, 0, len(attributes)] + [n for attribute in attributes for n in attribute]), [7] * TABLE)
+
+    for attribute, wanted in (((5, CDATA, 2, 77), 0), ((5, CDATA, 2, 65535), 0), ((5, CDATA, 2, 65536), 2), ((5, CDATA, 2), 1),
+                              ((5, CDATA, 3, 0), 2), ((5, ID, 2, 0), 2), ((5, IDREF, 2, 0), 2), ((5, IDREFS, 2, 0), 2)):
+        same(one_empty(attribute)[0], wanted)
+    same(translate(file_of([1, 0, 0, 1, 5, ID, 2]) + [128, 0], [7] * TABLE)[0], 2)          # at its status
+    same(translate(file_of([1, 0, 0, 1, 5, CDATA, 2]) + [128, 0], [7] * TABLE)[0], 1)
+    many = [(number, CDATA, 2, 10 * number) for number in range(17)]
+    same([one_empty(*many[:count])[0] for count in (0, 1, 16, 17)], [0, 0, 0, 2])
+    spread = [2, 0, 0, 16] + [n for attribute in many[:16] for n in attribute] + [0, 1, 0, CDATA]
+    same(translate(file_of(spread + [2]) + [128, 0], [7] * TABLE)[0], 2)                    # the seventeenth at its status
+    same(translate(file_of(spread + [1]), [7] * TABLE)[0], 0)
+    gauge = translate(file_of([2, 0, 0, 2, 3, 0, 2, 9, 63, 0, 2, 65535, 0, 2, 0, 0, 2, 0, 1, 0, 0]), [7] * TABLE)[1]
+    same(gauge[FIXED:FIXED + 11], [3, 0, 3, 9, 0, 63, 65535, 1, 0, 0, 0])
+    same((len(gauge), proper(gauge), proper(gauge[:FIXED])), (6675, True, False))
+    gauge = one_empty((5, CDATA, 2, 77), (6, CDATA, 1))[1]
+    for values, wanted in (([], 0), ([621], 0), ([629], 8), ([621, 621], 8), ([621, 629], 8), ([621, 52, 629], 0)):
+        tokens = [1] + ([44] if values else []) + values + [2]
+        same(check(gauge, tokens, len(tokens)), (wanted, 0))
+    # attribute 1 CDATA, 2 CDATA required, 3 ID, 4 IDREF, 5 IDREFS, 6 and 7 CDATA; of the second element 1 CDATA
+    given = [7, 1, 0, 1, 2, 0, 0, 3, 1, 1, 4, 2, 1, 5, 3, 1, 6, 0, 1, 7, 0, 1]
+    gauge = translate(file_of([2, 0, 0] + given + [0, 1, 1, 0, 1]), [7] * TABLE)[1]
+
+    def fixing(count, *entries):
+        numbers = [count] + [n for entry in entries for n in entry]
+        return proper(gauge[:FIXED] + numbers + [0] * (TABLE - FIXED - len(numbers)))
+
+    same([fixing(0), fixing(1, (0, 1, 65535)), fixing(3, (0, 1, 0), (0, 6, 9), (1, 1, 5))], [True] * 3)
+    for entry in ((0, 0, 9), (0, 2, 9), (0, 3, 9), (0, 4, 9), (0, 5, 9), (0, 64, 9), (1, 2, 9), (2, 1, 9), (48, 1, 9), (0, 1, 65536)):
+        same(fixing(1, entry), False)
+    for pair in (((0, 6, 9), (0, 1, 9)), ((0, 6, 9), (0, 6, 9)), ((1, 1, 9), (0, 6, 9))):
+        same(fixing(2, *pair), False)
+    same([fixing(1, (0, 1, 9), (0, 6, 9)), fixing(0, (0, 0, 9)), fixing(17, (0, 1, 9)), fixing(2, (0, 1, 9))], [False] * 4)
 
     # occurrence 63
     symbols = [3] + [1] * 63 + [5 + k for k in range(47)] + [5 + 47] * 17

@@ -135,8 +135,17 @@ fn change_values(random: &mut Random, element: &mut Element, grammar: &Grammar, 
     }
     let i = random.below(element.attributes.len());
     let kind = keys::kind(grammar, element.name, element.attributes[i].number);
+    let fixed = keys::fixed(grammar, element.name, element.attributes[i].number);
     let attribute = &mut element.attributes[i];
     let at = random.below(attribute.values.len());
+    if let Some(value) = fixed {
+        attribute.values = match random.below(3) {
+            0 => vec![value, value],
+            1 => vec![value.wrapping_add(1)],
+            _ => vec![random.short()],
+        };
+        return;
+    }
     match kind {
         Some(Kind::Id) if random.chance(70) => attribute.values[at] = *random.pick(all_ids),
         Some(Kind::Idref | Kind::Idrefs) if random.chance(70) => attribute.values[at] = random.short(),

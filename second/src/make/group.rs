@@ -7,7 +7,7 @@ use super::runs::Run;
 use super::{bad_texts, compares, edits, files, lists, programs, schemas, tables, tallies, texts};
 use crate::case::{Case, Outcome, Table};
 use crate::paper::compare::LEAST_ROOM;
-use crate::paper::table::WORDS;
+use crate::paper::table::{FIXED, WORDS};
 use crate::paper::{dtd, tree};
 use crate::random::Random;
 use std::rc::Rc;
@@ -79,7 +79,7 @@ impl Group {
             false => self.schema_file(),
         };
         let length = match random.below(12) {
-            0 => *random.pick(&[0, 1, 2, WORDS - 1, WORDS + 1, 2 * WORDS]),
+            0 => *random.pick(&[0, 1, 2, FIXED, WORDS - 1, WORDS + 1, 2 * WORDS]),
             _ => WORDS,
         };
         Case::Translate { file, buffer: old_words(random, length) }

@@ -10,6 +10,11 @@ pub fn kind(grammar: &Grammar, element: u16, attribute: u16) -> Option<Kind> {
     grammar.declaration(element)?.attribute(attribute).map(|known| known.kind)
 }
 
+/// The value of a fixed attribute of an element.
+pub fn fixed(grammar: &Grammar, element: u16, attribute: u16) -> Option<u16> {
+    grammar.declaration(element)?.attribute(attribute)?.fixed
+}
+
 fn is_reference(kind: Option<Kind>) -> bool {
     matches!(kind, Some(Kind::Idref | Kind::Idrefs))
 }
@@ -37,6 +42,10 @@ pub fn settle(random: &mut Random, root: &mut Element, grammar: &Grammar, taken:
     root.each_mut(&mut |element| {
         for attribute in &mut element.attributes {
             let kind = kind(grammar, element.name, attribute.number);
+            if let Some(value) = fixed(grammar, element.name, attribute.number) {
+                attribute.values = vec![value];
+                continue;
+            }
             for value in &mut attribute.values {
                 if kind == Some(Kind::Id) && used.len() < 65_536 {
                     while !used.insert(next) {

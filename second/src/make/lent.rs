@@ -2,7 +2,7 @@
 
 use super::documents::{self, Ground, Scale};
 use super::sizes::Sizes;
-use super::{faults, files, tables};
+use super::{faults, files, fixed, tables};
 use crate::case::Table;
 use crate::random::Random;
 use std::rc::Rc;
@@ -35,9 +35,10 @@ pub fn lent_table(random: &mut Random, base: &Base) -> Rc<Table> {
 
 pub fn lent_changed(random: &mut Random, base: &Base) -> Rc<Table> {
     let mut words = base.table.words.clone();
-    match random.chance(80) {
-        true => tables::change_word(random, &mut words),
-        false => tables::change_length(random, &mut words),
+    match random.below(10) {
+        0..=4 => tables::change_word(random, &mut words),
+        5..=7 => fixed::break_table(random, &mut words),
+        _ => tables::change_length(random, &mut words),
     }
     Rc::new(Table::of_words(words))
 }

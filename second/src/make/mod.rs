@@ -7,6 +7,7 @@ pub mod edits;
 pub mod expressions;
 pub mod faults;
 pub mod files;
+pub mod fixed;
 pub mod group;
 pub mod keys;
 pub mod lent;

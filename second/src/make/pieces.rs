@@ -91,6 +91,9 @@ pub fn attribute(random: &mut Random, ground: &Ground, element: &Element, ids: &
         return Attribute { number: random.short(), values };
     }
     let known = random.pick(known);
+    if let Some(value) = known.fixed {
+        return Attribute { number: known.number, values: fixed_values(random, value) };
+    }
     let value = |random: &mut Random| match known.kind {
         Kind::Idref | Kind::Idrefs if !ids.is_empty() && !random.chance(10) => *random.pick(ids),
         Kind::Id if !ids.is_empty() && random.chance(20) => *random.pick(ids),
@@ -102,6 +105,16 @@ pub fn attribute(random: &mut Random, ground: &Ground, element: &Element, ids: &
         _ => 1,
     };
     Attribute { number: known.number, values: (0..count).map(|_| value(random)).collect() }
+}
+
+/// The value that is fixed, mostly; else another, or it and one more.
+pub fn fixed_values(random: &mut Random, value: u16) -> Vec<u16> {
+    match random.below(8) {
+        0 => vec![random.short()],
+        1 => vec![value, value],
+        2 => vec![value, random.short()],
+        _ => vec![value],
+    }
 }
 
 /// Another piece in place of a fitting one: empty, a text, an element, an attribute, noise, or a fault in its tokens.

@@ -1,7 +1,7 @@
 //! Random schemas within the limits, and damaged schema files.
 
-use super::expressions;
 use super::sizes::{self, ENDLESS};
+use super::{expressions, fixed};
 use crate::paper::expression::Expression::{self, Choice, Name, Optional, Plus, Sequence, Star};
 use crate::paper::grammar::{Attribute, Content, Declaration, Grammar, Kind, Model};
 use crate::paper::{numbers, schema_file};
@@ -40,6 +40,7 @@ pub fn schema(random: &mut Random) -> Grammar {
     if random.chance(95) {
         make_finite(random, &mut grammar);
     }
+    fixed::in_grammar(random, &mut grammar);
     grammar
 }
 
@@ -79,7 +80,7 @@ fn attributes(random: &mut Random, many: bool) -> Vec<Attribute> {
                 2 => Kind::Idrefs,
                 _ => Kind::Cdata,
             };
-            chosen.push(Attribute { number, kind, required: random.chance(required_percent) });
+            chosen.push(Attribute { number, kind, required: random.chance(required_percent), fixed: None });
         }
     }
     chosen
@@ -101,10 +102,10 @@ fn keyed_list(random: &mut Random, grammar: &mut Grammar) {
     grammar.elements[grammar.root].content = Content::Model(Model::new(expression));
     let number = *random.pick(&[0, 1, 7, 62, 63]);
     let required = random.chance(60);
-    grammar.elements[held].attributes = vec![Attribute { number, kind: Kind::Id, required }];
+    grammar.elements[held].attributes = vec![Attribute { number, kind: Kind::Id, required, fixed: None }];
     let kind = *random.pick(&[Kind::Idref, Kind::Idrefs]);
     let required = random.chance(60);
-    grammar.elements[refers].attributes = vec![Attribute { number: 63 - number, kind, required }];
+    grammar.elements[refers].attributes = vec![Attribute { number: 63 - number, kind, required, fixed: None }];
     for e in [held, refers] {
         if random.chance(60) {
             grammar.elements[e].content = Content::Empty;
@@ -164,18 +165,19 @@ fn make_finite(random: &mut Random, grammar: &mut Grammar) {
 /// A schema file with a fault, or noise, or one that happens to be good.
 pub fn damaged(random: &mut Random, grammar: &Grammar) -> Vec<u8> {
     let mut file = schema_file::numbers_of(grammar);
-    match random.below(9) {
+    match random.below(11) {
         0 => return noise(random),
-        1 | 2 => return numbers::file_of(&schema_file::numbers_of(&drawn_models(random, grammar))),
-        3 => return over_a_limit(random),
-        4 => {
+        1 => return fixed::broken_file(random, grammar),
+        2 | 3 => return numbers::file_of(&schema_file::numbers_of(&drawn_models(random, grammar))),
+        4 => return over_a_limit(random),
+        5 => {
             let mut bytes = numbers::file_of(&file);
             super::files::damage_bytes(random, &mut bytes);
             return bytes;
         }
-        5 => file.push(random.below(3) as u32),
-        6 => file.truncate(random.below(file.len())),
-        7 => {
+        6 => file.push(random.below(3) as u32),
+        7 => file.truncate(random.below(file.len())),
+        8 => {
             let at = random.below(file.len());
             file.remove(at);
         }

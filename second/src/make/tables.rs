@@ -1,6 +1,7 @@
 //! Tables that no schema gives: proper ones, and ones with a fault.
 
-use crate::paper::table::{bits, block_at, ALLOWED, BLOCK, COUNT, FIRST, FOLLOW, KIND_SETS, LAST, NAMES, NO_CHILD, REQUIRED, WORDS};
+use super::fixed;
+use crate::paper::table::{bits, block_at, ALLOWED, BLOCK, COUNT, FIRST, FIXED, FOLLOW, KIND_SETS, LAST, NAMES, NO_CHILD, REQUIRED, WORDS};
 use crate::random::Random;
 
 /// A proper table, its sets drawn.
@@ -22,6 +23,7 @@ pub fn proper(random: &mut Random) -> Vec<u64> {
             model(random, block, elements);
         }
     }
+    fixed::in_table(random, &mut words);
     words
 }
 
@@ -124,8 +126,9 @@ pub fn change_word(random: &mut Random, words: &mut [u64]) {
 
 /// Brings a table to another length.
 pub fn change_length(random: &mut Random, words: &mut Vec<u64>) {
-    let length = match random.below(6) {
+    let length = match random.below(7) {
         0 => 0,
+        5 => FIXED,
         1 => random.below(WORDS),
         2 => WORDS + random.within(1, 200),
         3 => block_at(words[0].min(47) as usize),

@@ -22,6 +22,8 @@ pub struct Attribute {
     pub number: u16,
     pub kind: Kind,
     pub required: bool,
+    /// Item 8: "if present has exactly that value".
+    pub fixed: Option<u16>,
 }
 
 #[derive(Clone, Copy, Debug, PartialEq)]
@@ -72,6 +74,11 @@ impl Model {
 }
 
 impl Grammar {
+    /// How many fixed attributes there are.
+    pub fn fixed(&self) -> usize {
+        self.elements.iter().flat_map(|element| &element.attributes).filter(|attribute| attribute.fixed.is_some()).count()
+    }
+
     /// The declaration of a name, if it is below E.
     pub fn declaration(&self, name: u16) -> Option<&Declaration> {
         self.elements.get(usize::from(name))

@@ -1,7 +1,7 @@
 //! "Judgement of a document": the first fault of a tree and its place.
 
 use super::answer::{ATTRIBUTES, CONTENT, DONE, ID_TWICE, NAME, NO_ID, ROOT, SHAPE, TABLE};
-use super::grammar::{Declaration, Grammar, Kind};
+use super::grammar::{Attribute, Declaration, Grammar, Kind};
 use super::tally::{self, Tally, MIDDLE};
 use super::tree::{self, Element, Item};
 use std::collections::HashSet;
@@ -94,6 +94,7 @@ fn fault(element: &Element, declaration: Option<&Declaration>) -> Option<(u32, u
     };
     let each_fits = element.attributes.iter().all(|attribute| match declaration.attribute(attribute.number) {
         None => false,
+        Some(Attribute { fixed: Some(value), .. }) => attribute.values == [*value],
         Some(known) => known.kind == Kind::Idrefs || attribute.values.len() == 1,
     });
     let has = |number| element.attributes.iter().any(|attribute| attribute.number == number);

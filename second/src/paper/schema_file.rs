@@ -5,8 +5,15 @@ use super::expression::Expression;
 use super::grammar::{Attribute, Content, Declaration, Grammar, Kind, Model, KINDS};
 use super::{numbers, occurrences};
 
+/// "Up to 16 in a schema."
+pub const MOST_FIXED: usize = 16;
+
 struct Reading<'a> {
     rest: &'a [u8],
+    /// Fixed attributes met.
+    fixed: usize,
+    /// Which rule of fixed attributes was broken, if one was.
+    broken: Option<&'static str>,
 }
 
 impl Reading<'_> {
@@ -51,27 +58,52 @@ impl Reading<'_> {
             if kind == Kind::Id && attributes.iter().any(|before| before.kind == Kind::Id) {
                 return Err(SCHEMA);
             }
-            let required = self.number(0, 1)? == 0;
-            attributes.push(Attribute { number, kind, required });
+            let status = self.number(0, 2)?;
+            let fixed = if status == 2 { Some(self.fixed(kind)?) } else { None };
+            attributes.push(Attribute { number, kind, required: status == 0, fixed });
         }
         Ok(attributes)
+    }
+
+    /// The value of a fixed attribute. "a seventeenth fixed attribute, one not CDATA, or a value over 65,535 is 2 where its number stands"
+    fn fixed(&mut self, kind: Kind) -> Result<u16, u32> {
+        if kind != Kind::Cdata || self.fixed == MOST_FIXED {
+            self.broken = Some(if kind != Kind::Cdata { "fixed, not CDATA" } else { "fixed, 17th" });
+            return Err(SCHEMA);
+        }
+        self.fixed += 1;
+        let value = self.number(0, numbers::LARGEST)?;
+        u16::try_from(value).map_err(|_| {
+            self.broken = Some("fixed, value");
+            SCHEMA
+        })
+    }
+
+    fn schema(&mut self) -> Result<Grammar, u32> {
+        let count = self.number(1, 48)?;
+        let root = self.number(0, count - 1)? as usize;
+        let mut elements = Vec::new();
+        for _ in 0..count {
+            let content = self.content(count)?;
+            elements.push(Declaration { content, attributes: self.attributes()? });
+        }
+        match self.rest.is_empty() {
+            true => Ok(Grammar { root, elements }),
+            false => Err(SCHEMA),
+        }
     }
 }
 
 /// The schema of a file, or the number of the refusal.
 pub fn read(file: &[u8]) -> Result<Grammar, u32> {
-    let mut reading = Reading { rest: file };
-    let count = reading.number(1, 48)?;
-    let root = reading.number(0, count - 1)? as usize;
-    let mut elements = Vec::new();
-    for _ in 0..count {
-        let content = reading.content(count)?;
-        elements.push(Declaration { content, attributes: reading.attributes()? });
-    }
-    match reading.rest.is_empty() {
-        true => Ok(Grammar { root, elements }),
-        false => Err(SCHEMA),
-    }
+    read_telling(file).0
+}
+
+/// The same, and the rule of fixed attributes that is broken, if it is one.
+pub fn read_telling(file: &[u8]) -> (Result<Grammar, u32>, Option<&'static str>) {
+    let mut reading = Reading { rest: file, fixed: 0, broken: None };
+    let read = reading.schema();
+    (read, reading.broken)
 }
 
 /// The numbers of a schema's file. The models must be expressions.
@@ -91,7 +123,11 @@ pub fn numbers_of(grammar: &Grammar) -> Vec<u32> {
         file.push(element.attributes.len() as u32);
         for attribute in &element.attributes {
             let kind = KINDS.iter().position(|kind| *kind == attribute.kind).expect("one of four") as u32;
-            file.extend([u32::from(attribute.number), kind, u32::from(!attribute.required)]);
+            file.extend([u32::from(attribute.number), kind]);
+            match attribute.fixed {
+                Some(value) => file.extend([2, u32::from(value)]),
+                None => file.push(u32::from(!attribute.required)),
+            }
         }
     }
     file

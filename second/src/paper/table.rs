@@ -3,7 +3,7 @@
 use super::grammar::{Attribute, Content, Declaration, Grammar, Kind, KINDS};
 use super::occurrences;
 
-pub const WORDS: usize = 6_626;
+pub const WORDS: usize = 6_675;
 pub const BLOCKS: usize = 48;
 pub const BLOCK: usize = 138;
 
@@ -18,6 +18,10 @@ pub const LAST: usize = 9;
 pub const NAMES: usize = 10;
 pub const FOLLOW: usize = 74;
 
+/// Item 8: where the count of fixed attributes stands; behind it 16 entries of element, attribute and value.
+pub const FIXED: usize = 2 + BLOCKS * BLOCK;
+pub const ENTRIES: usize = FIXED + 1;
+
 /// Where the block of an element begins.
 pub fn block_at(element: usize) -> usize {
     2 + BLOCK * element
@@ -28,6 +32,13 @@ pub fn of(grammar: &Grammar) -> Vec<u64> {
     let mut words = vec![grammar.elements.len() as u64, grammar.root as u64];
     for element in &grammar.elements {
         words.extend(block_of(element));
+    }
+    words.resize(FIXED, 0);
+    words.push(grammar.fixed() as u64);
+    for (e, element) in grammar.elements.iter().enumerate() {
+        for attribute in &element.attributes {
+            words.extend(attribute.fixed.iter().flat_map(|value| [e as u64, u64::from(attribute.number), u64::from(*value)]));
+        }
     }
     words.resize(WORDS, 0);
     words
@@ -68,11 +79,53 @@ fn block_of(element: &Declaration) -> Vec<u64> {
 
 /// Whether a table is proper.
 pub fn is_proper(words: &[u64]) -> bool {
+    is_proper_but_fixed(words) && fixed_fault(words).is_none()
+}
+
+/// Whether a table is proper in all but its fixed attributes.
+pub fn is_proper_but_fixed(words: &[u64]) -> bool {
     if words.len() != WORDS || words[0] < 1 || words[0] > BLOCKS as u64 || words[1] >= words[0] {
         return false;
     }
-    let (declared, others) = words.split_at(block_at(words[0] as usize));
+    let (declared, others) = words[..FIXED].split_at(block_at(words[0] as usize));
     others.iter().all(|word| *word == 0) && declared[2..].chunks(BLOCK).all(|block| is_proper_block(block, words[0]))
+}
+
+/// The first rule that the fixed attributes of such a table break: "entries rise strictly by element and then attribute, name an attribute
+/// allowed, of no ID or reference kind and not required, [..] the count is at most 16, [..] values stay at or below 65,535 and [..] unused
+/// entries are 0".
+pub fn fixed_fault(words: &[u64]) -> Option<&'static str> {
+    let count = usize::try_from(words[FIXED]).ok().filter(|count| *count <= 16);
+    let (used, unused) = match count {
+        Some(count) => words[ENTRIES..].split_at(3 * count),
+        None => return Some("table: 17 fixed"),
+    };
+    let entries: Vec<&[u64]> = used.chunks(3).collect();
+    if unused.iter().any(|word| *word != 0) {
+        return Some("table: fixed unused");
+    }
+    if entries.windows(2).any(|pair| pair[0][..2] >= pair[1][..2]) {
+        return Some("table: fixed rising");
+    }
+    entries.iter().find_map(|entry| entry_fault(words, entry))
+}
+
+fn entry_fault(words: &[u64], entry: &[u64]) -> Option<&'static str> {
+    if entry[0] >= words[0] {
+        return Some("table: fixed from E");
+    }
+    let block = &words[block_at(entry[0] as usize)..][..BLOCK];
+    let is_in = |set: u64| entry[1] < 64 && set >> entry[1] & 1 == 1;
+    if !is_in(block[ALLOWED]) {
+        return Some("table: fixed barred");
+    }
+    if block[KIND_SETS..KIND_SETS + 3].iter().any(|set| is_in(*set)) {
+        return Some("table: fixed key");
+    }
+    if is_in(block[REQUIRED]) {
+        return Some("table: fixed needed");
+    }
+    (entry[2] > 65_535).then_some("table: fixed value")
 }
 
 fn is_proper_block(block: &[u64], elements: u64) -> bool {
@@ -157,7 +210,12 @@ pub fn grammar_of(words: &[u64]) -> Option<Grammar> {
         return None;
     }
     let declared = &words[2..block_at(words[0] as usize)];
-    let elements = declared.chunks(BLOCK).map(declaration_of).collect();
+    let mut elements: Vec<Declaration> = declared.chunks(BLOCK).map(declaration_of).collect();
+    for entry in words[ENTRIES..].chunks(3).take(words[FIXED] as usize) {
+        let attributes = &mut elements[entry[0] as usize].attributes;
+        let fixed = attributes.iter_mut().find(|attribute| u64::from(attribute.number) == entry[1]);
+        fixed.expect("an attribute that is allowed").fixed = Some(entry[2] as u16);
+    }
     Some(Grammar { root: words[1] as usize, elements })
 }
 
@@ -176,7 +234,7 @@ fn declaration_of(block: &[u64]) -> Declaration {
     };
     let attribute = |bit: usize| {
         let kind = (0..3).find(|i| block[KIND_SETS + i] >> bit & 1 == 1).map_or(Kind::Cdata, |i| KINDS[i + 1]);
-        Attribute { number: bit as u16, kind, required: block[REQUIRED] >> bit & 1 == 1 }
+        Attribute { number: bit as u16, kind, required: block[REQUIRED] >> bit & 1 == 1, fixed: None }
     };
     Declaration { content, attributes: bits(block[ALLOWED]).into_iter().map(attribute).collect() }
 }

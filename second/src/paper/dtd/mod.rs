@@ -220,7 +220,7 @@ impl Taken<'_> {
     fn attribute(&self, attribute: &declarations::Attribute) -> grammar::Attribute {
         let number = number_of(&self.attributes, &self.text[attribute.name.clone()]);
         let (kind, _) = attribute.kind.as_ref().expect("the text was read to its end");
-        grammar::Attribute { number, kind: *kind, required: attribute.required }
+        grammar::Attribute { number, kind: *kind, required: attribute.required, fixed: None }
     }
 
     /// The expression of a part of a model: a bracket round one part is that part, and of several the first stands against the rest.
