@@ -14,13 +14,12 @@ use Rattle.paper.specs.Shape.{shapeOf}
 use Rattle.paper.specs.Rules.{ofTable}
 use Rattle.paper.specs.Judgement.{Answer, judge, whole, checking, check}
 use Rattle.paper.specs.Answers.{Answers, checkAnswers}
-use Rattle.paper.specs.Calls.{Checks}
 use Rattle.answer_laws.specs.Judged.{each, placed, Judged, judge-judged}
 use Rattle.answer_laws.specs.ShapeParts.{shape-element}
 use Rattle.answer_laws.specs.NeverSeven.{table-sound, document-not7}
 
 -- "A whole check never gives 7, as 10 or the parent's 9 comes first"
-pub check-never-7 : (table buffer : List ℕ) (used : ℕ) (o : Answer) → Checks table buffer used o → o .0 ≢ 7
+pub check-never-7 : (table buffer : List ℕ) (used : ℕ) (o : Answer) → o ≡ check table buffer used → o .0 ≢ 7
 unfolding check checking
 check-never-7 table buffer used o e = by-table (proper table) refl e
   where
@@ -32,7 +31,7 @@ check-never-7 table buffer used o e = by-table (proper table) refl e
     by-table true p e = by-shape p (shapeOf buffer used) refl e
     by-table false p e = rw e (λ z. absurd (omega arith))
 
-pub check-answers : (table buffer : List ℕ) (used : ℕ) (o : Answer) → Checks table buffer used o → Answers checkAnswers (o .0) (o .1)
+pub check-answers : (table buffer : List ℕ) (used : ℕ) (o : Answer) → o ≡ check table buffer used → Answers checkAnswers (o .0) (o .1)
 unfolding check checking
 check-answers table buffer used o e = by-table (proper table) e
   where

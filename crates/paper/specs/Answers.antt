@@ -5,6 +5,7 @@
 --  2 schema value, form, limit 7 name                       12 reference to none
 --  3 ambiguous model           8 attributes                 13 table
 --  4 no shape, or bad piece    9 content                    14 DTD text
+--                                                           15 counts
 --                                                           16 kind not compared
 use mathlib.Core.List.{List, [], _∷_}
 use Prim.Native.Nat.{ℕ}
@@ -25,9 +26,13 @@ translatorAnswers = 0 ∷ 1 ∷ 2 ∷ 3 ∷ 13 ∷ []
 abbrev pub checkAnswers : List ℕ
 checkAnswers = 0 ∷ 4 ∷ 8 ∷ 9 ∷ 10 ∷ 11 ∷ 12 ∷ 13 ∷ []
 
--- "an edit under or at an undeclared element of an invalid document does"
+-- "an edit under or at an undeclared element of an invalid document does". Item 7: "new 15"
 abbrev pub editAnswers : List ℕ
-editAnswers = 0 ∷ 4 ∷ 5 ∷ 6 ∷ 7 ∷ 8 ∷ 9 ∷ 10 ∷ 11 ∷ 12 ∷ 13 ∷ []
+editAnswers = 0 ∷ 4 ∷ 5 ∷ 6 ∷ 7 ∷ 8 ∷ 9 ∷ 10 ∷ 11 ∷ 12 ∷ 13 ∷ 15 ∷ []
+
+-- Item 7: the question
+abbrev pub elementsAnswers : List ℕ
+elementsAnswers = 0 ∷ 13 ∷ 15 ∷ []
 
 -- Item 6: those of its last edit; "a list that is empty or ends inside an edit is 4, a 257th edit begun is 5"
 abbrev pub listAnswers : List ℕ

@@ -10,7 +10,7 @@ use Rattle.paper.specs.Rules.{ofSchema}
 use Rattle.paper.specs.Back.{went, inverse, noted, editIn}
 use Rattle.paper.specs.Edits.{outcome, editBy}
 use Rattle.paper.specs.Open.{all-open}
-use Rattle.paper.specs.SmallShade.{shade, small, buffer}
+use Rattle.paper.specs.SmallShade.{shade, small, buffer, counts}
 
 abbrev ask : ℕ → ℕ → List ℕ → Request
 ask op at piece = record { operation = op; place = at; piece = piece }
@@ -46,7 +46,7 @@ all-read = refl
 -- the number of an edit of the small shade, by its expressions, with a second buffer of so many places
 abbrev pub numberWith : Parsed Schema → Request × ℕ → ℕ
 numberWith (stop k) x = k
-numberWith (ok s r) x = let second : List ℕ = replicate (x .1) 7 in outcome buffer 15 second (editBy (ofSchema s) buffer 15 (x .0) second) .number
+numberWith (ok s r) x = let second : List ℕ = replicate (x .1) 7 in outcome buffer 15 second counts (editBy (ofSchema s) buffer 15 (x .0) second counts) .number
 
 -- A remove of four tokens, and an insert: long enough, and one short. A remove that judgement refuses: 5 comes first. An attribute that is
 -- added, where none is declared, the same. An operation that is none: 6 comes first.

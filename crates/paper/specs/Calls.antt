@@ -3,9 +3,11 @@
 use mathlib.Core.Path.{_≡_}
 use mathlib.Core.List.{List}
 use Prim.Native.Nat.{ℕ}
+use lib.IntN.{ℤ}
 use Rattle.paper.specs.Files.{Counted, read, write}
 use Rattle.paper.specs.Table.{translate}
 use Rattle.paper.specs.Judgement.{Answer, check}
+use Rattle.paper.specs.Counts.{checkedCounts, elementsOf}
 use Rattle.paper.specs.Edits.{Request, Outcome, edit}
 use Rattle.paper.specs.Lists.{Listed, editList}
 use Rattle.paper.specs.Groups.{GroupOutcome, group}
@@ -24,13 +26,17 @@ Writes tokens buffer o = o ≡ write tokens buffer
 abbrev pub Translates : (file table : List ℕ) → ℕ × List ℕ → Type 0
 Translates file table o = o ≡ translate file table
 
--- the check: number and place; it is lent nothing to write to
-abbrev pub Checks : (table buffer : List ℕ) → (used : ℕ) → Answer → Type 0
-Checks table buffer used o = o ≡ check table buffer used
+-- the check: number and place, and the counts
+abbrev pub Checks : (table buffer : List ℕ) → (used : ℕ) → (counts : List ℤ) → Answer × List ℤ → Type 0
+Checks table buffer used counts o = o ≡ (check table buffer used, checkedCounts table buffer used counts)
 
--- the edit: number, place, used length, change in length, children looked at, the buffer and the second one
-abbrev pub Performs : (table buffer : List ℕ) → (used : ℕ) → Request → (second : List ℕ) → Outcome → Type 0
-Performs table buffer used q second o = o ≡ edit table buffer used q second
+-- the edit: number, place, used length, change in length, children looked at, the buffer, the second one and the counts
+abbrev pub Performs : (table buffer : List ℕ) → (used : ℕ) → Request → (second : List ℕ) → (counts : List ℤ) → Outcome → Type 0
+Performs table buffer used q second counts o = o ≡ edit table buffer used q second counts
+
+-- the question: number and count; it is lent nothing to write to
+abbrev pub Tells : (table : List ℕ) → (counts : List ℤ) → (name : ℕ) → ℕ × ℕ → Type 0
+Tells table counts name o = o ≡ elementsOf table counts name
 
 -- the list of edits: what the last edit that was run came to, with no second buffer, and how many were done
 abbrev pub PerformsList : (table buffer : List ℕ) → (used : ℕ) → (list : List ℕ) → Listed Outcome → Type 0

@@ -13,6 +13,7 @@ use Rattle.paper.specs.Table.{proper}
 use Rattle.paper.specs.Rules.{Rules, ofTable}
 use Rattle.paper.specs.Judgement.{Answer, judge}
 use Rattle.paper.specs.Back.{inverse, needs, noted}
+use Rattle.paper.specs.Counts.{moved, countsFault}
 -- what an edit is stands there, and is passed on
 pub use Rattle.paper.specs.Requests.{Request, byOperation, isText, goodItem, attrWith, someValues, opens, opensOrEnds, atHead, attrNumber, attrAt, attrCut, spliceAt, spliceCut, coming, splice}
 unfoldable pub use Rattle.paper.specs.Requests.{goodPiece, goodPlace, edited, touchedBy}
@@ -40,9 +41,11 @@ pub record Made : Type 0 where
   pub children : ℕ
   -- Item 2: "Each done edit also writes [..] the edit that takes it back"
   pub back : Request
+  -- Item 7: the counts, "carried along by edits"
+  pub counts : List ℤ
 
-abbrev pub made : Request → List ℕ → Made
-made q doc = record { tokens = edited q doc; children = lookedAt q doc; back = inverse q doc }
+abbrev pub made : (E : ℕ) → Request → (doc : List ℕ) → (counts : List ℤ) → Made
+made E q doc counts = record { tokens = edited q doc; children = lookedAt q doc; back = inverse q doc; counts = moved E q doc counts }
 
 pub data Edited : Type 0 where
   -- number and place
@@ -75,17 +78,22 @@ orNext (suc k) n = suc k
 unfoldable pub sizeFault : (room second : ℕ) → Request → List ℕ → ℕ
 sizeFault room second q doc = orNext (formFault room q doc) (cond (leb (needs q doc) second) 0 5)
 
--- the first fault, of form and size or of the judgement; else the edit is done
+-- Item 7: "new 15, [..] directly after 5": the number before anything is judged; 0 if there is none
+unfoldable pub limitFault : (E room second : ℕ) → Request → (doc : List ℕ) → (counts : List ℤ) → ℕ
+limitFault E room second q doc counts = orNext (sizeFault room second q doc) (countsFault (moved E q doc counts))
+
+-- the first fault, before the judgement or by it; else the edit is done
 abbrev pub answered : ℕ → Answer → Made → Edited
 answered zero a m = cond (eqb (a .0) 0) (done m) (refused (a .0) (a .1))
 answered (suc n) a m = refused (suc n) 0
 
 -- "Then the edited document is judged as above"
-unfoldable pub editing : Rules → (room second : ℕ) → Request → List ℕ → Edited
-editing R room second q doc = answered (sizeFault room second q doc) (judge R (touchedBy q doc) (toks (edited q doc))) (made q doc)
+unfoldable pub editing : Rules → (room second : ℕ) → Request → (doc : List ℕ) → (counts : List ℤ) → Edited
+editing R room second q doc counts =
+    answered (limitFault (R .elements) room second q doc counts) (judge R (touchedBy q doc) (toks (edited q doc))) (made (R .elements) q doc counts)
 
 -- "The answer has number, place, used length, and the change in length, a signed count that is negative when tokens went."
--- With them, the children looked at, and every place of the buffer and of the second one.
+-- With them, the children looked at, every place of the buffer and of the second one, and the counts.
 pub record Outcome : Type 0 where
   pub number : ℕ
   pub place : ℕ
@@ -94,16 +102,17 @@ pub record Outcome : Type 0 where
   pub children : ℕ
   pub buffer : List ℕ
   pub back : List ℕ
+  pub counts : List ℤ
 
 -- "Done: places from the new length to the old hold 0, later ones are untouched."
 abbrev pub written : List ℕ → ℕ → List ℕ → List ℕ
 written buffer used new = new ++ (replicate (used - length new) 0 ++ drop (max used (length new)) buffer)
 
 -- "Refusals leave everything lent as it was; an edit's gives the old length and change 0." Item 10: "Refused edits report 0."
-abbrev pub outcome : (buffer : List ℕ) → (used : ℕ) → (second : List ℕ) → Edited → Outcome
-outcome buffer used second (refused n p) =
-    record { number = n; place = p; used = used; change = pos 0; children = 0; buffer = buffer; back = second }
-outcome buffer used second (done m) = record {
+abbrev pub outcome : (buffer : List ℕ) → (used : ℕ) → (second : List ℕ) → (counts : List ℤ) → Edited → Outcome
+outcome buffer used second counts (refused n p) =
+    record { number = n; place = p; used = used; change = pos 0; children = 0; buffer = buffer; back = second; counts = counts }
+outcome buffer used second counts (done m) = record {
   number = 0;
   place = 0;
   used = length (m .tokens);
@@ -111,11 +120,14 @@ outcome buffer used second (done m) = record {
   children = m .children;
   buffer = written buffer used (m .tokens);
   back = noted second (m .back);
+  counts = m .counts;
 }
 
 -- "Order: table (13); document shape (4); [the rest]"
-unfoldable pub editBy : Rules → (buffer : List ℕ) → (used : ℕ) → Request → (second : List ℕ) → Edited
-editBy R buffer used q second = cond (shapeOf buffer used) (editing R (length buffer) (length second) q (take used buffer)) (refused 4 0)
+unfoldable pub editBy : Rules → (buffer : List ℕ) → (used : ℕ) → Request → (second : List ℕ) → (counts : List ℤ) → Edited
+editBy R buffer used q second counts =
+    cond (shapeOf buffer used) (editing R (length buffer) (length second) q (take used buffer) counts) (refused 4 0)
 
-unfoldable pub edit : (table buffer : List ℕ) → (used : ℕ) → Request → (second : List ℕ) → Outcome
-edit table buffer used q second = outcome buffer used second (cond (proper table) (editBy (ofTable table) buffer used q second) (refused 13 0))
+unfoldable pub edit : (table buffer : List ℕ) → (used : ℕ) → Request → (second : List ℕ) → (counts : List ℤ) → Outcome
+edit table buffer used q second counts =
+    outcome buffer used second counts (cond (proper table) (editBy (ofTable table) buffer used q second counts) (refused 13 0))

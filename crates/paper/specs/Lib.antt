@@ -20,9 +20,10 @@ pub mod Trees
 pub mod Rules
 pub mod Judgement
 pub mod Validity
--- "The five edits", and item 2's edit that takes an edit back
+-- "The five edits", with item 2's edit that takes an edit back and item 7's counts
 pub mod Requests
 pub mod Back
+pub mod Counts
 pub mod Edits
 pub mod TreeEdits
 -- Item 4: DTD text
@@ -43,6 +44,7 @@ pub mod SmallShade
 pub mod Given
 -- Requests, by computing
 pub mod BackExamples
+pub mod CountExamples
 pub mod ListExamples
 pub mod GroupExamples
 pub mod InclusionExamples

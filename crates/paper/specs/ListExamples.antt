@@ -11,7 +11,7 @@ use Rattle.paper.specs.Table.{tableOf}
 use Rattle.paper.specs.Edits.{Outcome}
 use Rattle.paper.specs.Lists.{splitList, faultOf, Listed, editList}
 use Rattle.paper.specs.Open.{all-open}
-use Rattle.paper.specs.SmallShade.{shade, small, buffer}
+use Rattle.paper.specs.SmallShade.{shade, small, buffer, counts}
 
 -- the last answer's number, place, used length, change and children looked at, and how many edits are done
 abbrev Told : Type 0
@@ -22,15 +22,18 @@ told o = (o .last .number, o .last .place, o .last .used, o .last .change, o .la
 
 -- a list on the small shade
 abbrev runs : Parsed Schema → List ℕ → Listed Outcome
-runs (stop n) l = editList [] buffer 15 l
-runs (ok s r) l = editList (tableOf s) buffer 15 l
+runs (stop n) l = editList [] buffer 15 l counts
+runs (ok s r) l = editList (tableOf s) buffer 15 l counts
 
--- the use goes; the panel goes, which is refused; a use comes at 10
+-- the use goes; the panel goes, which is refused; its row goes; a use comes at 10
 abbrev noUse : List ℕ
 noUse = 2 ∷ 10 ∷ 0 ∷ []
 
 abbrev noPanel : List ℕ
 noPanel = 2 ∷ 3 ∷ 0 ∷ []
+
+abbrev noRow : List ℕ
+noRow = 2 ∷ 6 ∷ 0 ∷ []
 
 abbrev newUse : List ℕ
 newUse = 1 ∷ 10 ∷ 4 ∷ 25 ∷ 20 ∷ 165 ∷ 2 ∷ []
@@ -58,6 +61,11 @@ all-told = refl
 pub stands : runs (schemaOf (fileOf shade)) (noUse ++ (noPanel ++ newUse)) .last .buffer ≡ take 10 small ++ (2 ∷ 0 ∷ 0 ∷ 0 ∷ 0 ∷ 7 ∷ 7 ∷ 7 ∷ 7 ∷ 7 ∷ [])
 unfolding all-open
 stands = refl
+
+-- Item 7: the counts of both edits that were done are carried; a refusal leaves them
+pub carried : runs (schemaOf (fileOf shade)) (noUse ++ (noRow ++ noPanel)) .last .counts ≡ pos 1 ∷ pos 1 ∷ pos 0 ∷ pos 0 ∷ replicate 44 (pos 0)
+unfolding all-open
+carried = refl
 
 -- so many edits, and a rest
 abbrev many : ℕ → List ℕ → ℕ

@@ -4,6 +4,7 @@ use mathlib.Core.Bool.{cond}
 use mathlib.Core.List.{List, [], _∷_, _++_}
 use Prim.Native.Nat.{ℕ, zero, suc, _<_}
 use lib.Dec.{leb, eqb}
+use lib.IntN.{ℤ}
 use lib.ListN.{length, take, drop}
 use Rattle.paper.specs.Basics.{mostEdits}
 use Rattle.paper.specs.Requests.{Request}
@@ -95,21 +96,30 @@ module _ {S : Type 0} (call : S → Request → S) (number : S → ℕ) where
 -- ---- the call
 
 -- the document as it was, with a number; with 0 the first edit is made on it
-abbrev pub lentWith : (buffer : List ℕ) → (used : ℕ) → ℕ → Outcome
-lentWith buffer used n = outcome buffer used [] (refused n 0)
+abbrev pub lentWith : (buffer : List ℕ) → (used : ℕ) → (counts : List ℤ) → ℕ → Outcome
+lentWith buffer used counts n = outcome buffer used [] counts (refused n 0)
 
 -- "It writes no inverses": an outcome with no second buffer
 abbrev pub alone : Outcome → Outcome
-alone o =
-    record { number = o .number; place = o .place; used = o .used; change = o .change; children = o .children; buffer = o .buffer; back = [] }
+alone o = record {
+  number = o .number;
+  place = o .place;
+  used = o .used;
+  change = o .change;
+  children = o .children;
+  buffer = o .buffer;
+  back = [];
+  counts = o .counts;
+}
 
--- a single call on what the one before it left, with a second buffer in which any inverse has room
+-- A single call on what the one before it left, with a second buffer in which any inverse has room. Item 7: counts are "carried along by
+-- edits, lists included".
 abbrev pub nextEdit : (table : List ℕ) → Outcome → Request → Outcome
-nextEdit table o q = alone (edit table (o .buffer) (o .used) q second)
+nextEdit table o q = alone (edit table (o .buffer) (o .used) q second (o .counts))
 
 abbrev pub numberOf : Outcome → ℕ
 numberOf o = o .number
 
 -- "Document, last answer and number of edits done are those of single calls."
-unfoldable pub editList : (table buffer : List ℕ) → (used : ℕ) → (list : List ℕ) → Listed Outcome
-editList table buffer used list = listed (nextEdit table) numberOf (lentWith buffer used) (splitList list)
+unfoldable pub editList : (table buffer : List ℕ) → (used : ℕ) → (list : List ℕ) → (counts : List ℤ) → Listed Outcome
+editList table buffer used list counts = listed (nextEdit table) numberOf (lentWith buffer used counts) (splitList list)

@@ -4,12 +4,15 @@ use mathlib.Core.Option.{Option, none, some}
 use mathlib.Core.List.{List, [], _∷_, _++_, map}
 use Prim.Native.Nat.{ℕ, zero, suc, _+_, _/_, _%_}
 use lib.Dec.{leb, ltb, eqb}
-use lib.ListN.{length, replicate}
+use lib.IntN.{ℤ}
+use lib.ListN.{length, take, replicate}
 use Rattle.paper.specs.Basics.{mostTokens, mostBack, mostFile, concat}
 use Rattle.paper.specs.Files.{largest, Result, refused, made, Counted, counted, reading}
 use Rattle.paper.specs.Schema.{Schema, Parsed, stop, ok, Reader, pure, refuse, _>>=_, number, numbers, schemaOf}
 use Rattle.paper.specs.Rules.{Rules, ofSchema}
 use Rattle.paper.specs.Judgement.{Answer, checking}
+use Rattle.paper.specs.Tokens.{toks}
+use Rattle.paper.specs.Counts.{fresh}
 use Rattle.paper.specs.Edits.{Request, Outcome, outcome, editBy}
 
 pub data Line : Type 0 where
@@ -33,20 +36,20 @@ second = replicate mostBack 0
 
 -- "one for each edit, from 1": the lines of the edits in the bytes s. An edit is one byte or more, so `bytes`, the file's
 -- length, is never too small a bound on their number.
-abbrev pub editLines : (bytes : ℕ) → Rules → (k : ℕ) → (buffer : List ℕ) → (used : ℕ) → List ℕ → List Line
-editLines zero R k buffer used s = []
-editLines (suc bytes) R k buffer used [] = []
-editLines (suc bytes) R k buffer used (b ∷ s) = elim (request (b ∷ s)) [
+abbrev pub editLines : (bytes : ℕ) → Rules → (k : ℕ) → (buffer : List ℕ) → (used : ℕ) → (counts : List ℤ) → List ℕ → List Line
+editLines zero R k buffer used counts s = []
+editLines (suc bytes) R k buffer used counts [] = []
+editLines (suc bytes) R k buffer used counts (b ∷ s) = elim (request (b ∷ s)) [
   | stop n ↦ halt n ∷ []
   | ok q r ↦
-      let o : Outcome = outcome buffer used second (editBy R buffer used q second) in
-      line k (o .number) (o .place) (o .used) ∷ editLines bytes R (suc k) (o .buffer) (o .used) r
+      let o : Outcome = outcome buffer used second counts (editBy R buffer used q second counts) in
+      line k (o .number) (o .place) (o .used) ∷ editLines bytes R (suc k) (o .buffer) (o .used) (o .counts) r
 ]
 
--- "After a check that isn't 0 nothing more is printed."
+-- "After a check that isn't 0 nothing more is printed." Item 7: the counts are "written by a check that says valid".
 abbrev pub checkLines : Rules → (buffer : List ℕ) → (used : ℕ) → Answer → (edits : List ℕ) → List Line
 checkLines R buffer used a edits =
-    line 0 (a .0) (a .1) used ∷ cond (eqb (a .0) 0) (editLines (length edits) R 1 buffer used edits) []
+    line 0 (a .0) (a .1) used ∷ cond (eqb (a .0) 0) (editLines (length edits) R 1 buffer used (fresh (R .elements) (toks (take used buffer))) edits) []
 
 -- "The document buffer has 8,192 places."
 abbrev pub places : List ℕ

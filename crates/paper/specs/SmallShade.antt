@@ -5,6 +5,7 @@ use mathlib.Core.Bool.{Bool, true, false, _&&_}
 use mathlib.Core.List.{List, [], _∷_, _++_}
 use Prim.Native.Nat.{ℕ}
 use lib.Dec.{eqb}
+use lib.IntN.{ℤ, pos}
 use lib.ListN.{length, replicate}
 use Rattle.paper.specs.Basics.{all, concat}
 use Rattle.paper.specs.Files.{fileOf}
@@ -38,6 +39,10 @@ buffer = small ++ (7 ∷ 7 ∷ 7 ∷ 7 ∷ 7 ∷ [])
 -- a second buffer of 20 places that hold 7
 abbrev pub second : List ℕ
 second = replicate 20 7
+
+-- its counts: one shade, panel, row and use
+abbrev pub counts : List ℤ
+counts = pos 1 ∷ pos 1 ∷ pos 1 ∷ pos 1 ∷ replicate 44 (pos 0)
 
 abbrev pub sameAnswer : ℕ → ℕ → Answer → Bool
 sameAnswer n p a = eqb (a .0) n && eqb (a .1) p
@@ -98,7 +103,8 @@ all-stop = refl
 abbrev pub costs : Parsed Schema → (Request × ℕ) → Bool
 costs (stop k) x = false
 costs (ok s r) x =
-    eqb (outcome buffer 15 second (editBy (ofSchema s) buffer 15 (x .0) second) .children) (x .1) && eqb (edit (tableOf s) buffer 15 (x .0) second .children) (x .1)
+    eqb (outcome buffer 15 second counts (editBy (ofSchema s) buffer 15 (x .0) second counts) .children) (x .1)
+    && eqb (edit (tableOf s) buffer 15 (x .0) second counts .children) (x .1)
 
 -- The use goes: the shade is left with a panel. The row's text goes: nothing is left in it; another comes: the text alone, which has none of
 -- its own. A panel comes, with nothing in it; the panel is replaced by one with a row that has a text. The shade is replaced by itself: it has

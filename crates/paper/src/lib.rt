@@ -175,6 +175,8 @@ pub const TABLE: u32 = 13;
 
 pub const DTD_TEXT: u32 = 14;
 
+pub const COUNTS: u32 = 15;
+
 pub const NOT_COMPARED: u32 = 16;
 
 // ---- Tokens

@@ -14,7 +14,7 @@ use Rattle.paper.specs.Rules.{ofSchema}
 use Rattle.paper.specs.Judgement.{checking, check}
 use Rattle.paper.specs.Edits.{Request, Outcome, outcome, editBy, edit}
 use Rattle.paper.specs.Open.{all-open}
-use Rattle.paper.specs.SmallShade.{shadeWith, shade, buffer, second, sameAnswer}
+use Rattle.paper.specs.SmallShade.{shadeWith, shade, buffer, second, counts, sameAnswer}
 
 -- "sixty-four `a` in sequence" is `chain 63`
 abbrev pub chain : ℕ → List ℕ
@@ -56,7 +56,8 @@ module _ (s : Schema) where
   holdsBy (checks n p) = sameAnswer n p (checking (ofSchema s) buffer 15) && sameAnswer n p (check (tableOf s) buffer 15)
   holdsBy (edits op at piece n p u) =
       let q : Request = record { operation = op; place = at; piece = piece } in
-      sameOutcome n p u (outcome buffer 15 second (editBy (ofSchema s) buffer 15 q second)) && sameOutcome n p u (edit (tableOf s) buffer 15 q second)
+      sameOutcome n p u (outcome buffer 15 second counts (editBy (ofSchema s) buffer 15 q second counts))
+      && sameOutcome n p u (edit (tableOf s) buffer 15 q second counts)
   holdsBy (translates symbols n) = eqb (refusalOf (schemaOf (fileOf (shadeWith symbols)))) n
 
 abbrev pub holds : Parsed Schema → Case → Bool

@@ -4,6 +4,7 @@ use mathlib.Core.Path.{_≡_}
 use mathlib.Core.Bool.{true}
 use mathlib.Core.List.{List}
 use Prim.Native.Nat.{ℕ}
+use lib.IntN.{ℤ}
 use Rattle.paper.specs.Schema.{Schema, ok, schemaOf}
 use Rattle.paper.specs.Table.{tableOf, proper}
 use Rattle.paper.specs.Rules.{ofSchema, ofTable}
@@ -24,7 +25,7 @@ module _ (file : List ℕ) {s : Schema} {r : List ℕ} (e : schemaOf file ≡ ok
   unfolding check
   check-by-expressions buffer used = rw (file-proper, file-rules)
 
-  pub edit-by-expressions : (buffer : List ℕ) (used : ℕ) (q : Request) (second : List ℕ)
-      → edit (tableOf s) buffer used q second ≡ outcome buffer used second (editBy (ofSchema s) buffer used q second)
+  pub edit-by-expressions : (buffer : List ℕ) (used : ℕ) (q : Request) (second : List ℕ) (counts : List ℤ)
+      → edit (tableOf s) buffer used q second counts ≡ outcome buffer used second counts (editBy (ofSchema s) buffer used q second counts)
   unfolding edit
-  edit-by-expressions buffer used q second = rw (file-proper, file-rules)
+  edit-by-expressions buffer used q second counts = rw (file-proper, file-rules)
