@@ -1,23 +1,28 @@
 // The five edits of a document, as one call: insert, remove, replace, set, drop.
 //
 // `edit` asks nothing of its arguments. The edited tokens are made in a buffer of its own and judged there, at what the edit touches; only
-// an edit that is done is written back, and its inverse into a second buffer. A refusal leaves both as they were.
+// an edit that is done is written back, its inverse into a second buffer, and the counts with what comes and what goes. A refusal leaves all
+// as they were.
 // Assumes nothing.
 use back::need;
 use back::note;
+use counts::moves;
+use counts::put;
 use form::form_of;
 use touched::judged;
 use written::change_of;
 use written::write;
 ghost use mathlib.Core.Path.{_≡_};
 ghost use mathlib.Core.Bool.{true};
-ghost use Prim.Native.Nat.{_≤_};
-ghost use lib.ListN.{length, take};
+ghost use Prim.Native.Nat.{_+_, _≤_};
+ghost use lib.ListN.{length, take, drop};
 ghost use Rattle.paper.specs.Basics.{mostTokens};
+ghost use Rattle.paper.specs.Tokens.{toks};
 ghost use Rattle.paper.specs.Shape.{shapeOf};
 ghost use Rattle.paper.specs.Table.{proper};
 ghost use Rattle.paper.specs.Rules.{ofTable};
 ghost use Rattle.paper.specs.Edits.{editing, written, outcome, edit};
+ghost use Rattle.counts.specs.Whole.{Moved};
 ghost use Rattle.edits.specs.Outcomes.{outcomeOf, refusal, doneWith};
 
 // "The answer has number, place, used length, and the change in length, a signed count that is negative when tokens went." Item 10: "A done
@@ -66,7 +71,32 @@ pub fn commit(
     }
 }
 
-// An edit of a document with shape, by a proper table. A refusal writes nothing to either buffer.
+// "carried along by edits": the counts after an edit that cuts `cut` tokens of the document at a place and puts `coming` tokens of the edited
+// one there. The answer: all are 0 to 8,192.
+fn carried(
+    table: &[u64],
+    counts: &[i32; 48],
+    doc: &[u32],
+    new: &[u32],
+    at: usize,
+    cut: usize,
+    coming: usize,
+    after: &mut [u32; 48],
+) -> bool
+    requires { ⌜ (proper (now table) ≡ true) × (at + cut ≤ length (now doc)) × (cut ≤ mostTokens) × (at + coming ≤ length (now new)) × (coming ≤ mostTokens) ⌝ }
+    ensures { λ r. ⌜ Moved (ofTable (now (table .entry)) .elements) (toks (take cut (drop at (now (doc .entry))))) (toks (take coming (drop at (now (new .entry))))) (now (counts .entry)) (now (after .exit)) r ⌝ }
+{
+    let elements = table[0] as u32;
+    moves(
+        counts,
+        &doc[at..at + cut],
+        &new[at..at + coming],
+        elements,
+        after,
+    )
+}
+
+// An edit of a document with shape, by a proper table. A refusal writes nothing to what is lent.
 fn edit_shaped(
     table: &[u64],
     doc: &mut [u32],
@@ -75,9 +105,10 @@ fn edit_shaped(
     place: usize,
     piece: &[u32],
     back: &mut [u32],
+    counts: &mut [i32; 48],
 ) -> Answer
     requires { ⌜ (proper (now table) ≡ true) × (shapeOf (now doc) used ≡ true) ⌝ }
-    ensures { λ r. ⌜ outcomeOf r (now (doc .exit)) (now (back .exit)) ≡ outcome (now (doc .entry)) used (now (back .entry)) (editing (ofTable (now (table .entry))) (length (now (doc .entry))) (length (now (back .entry))) (record { operation = operation; place = place; piece = now (piece .entry) }) (take used (now (doc .entry)))) ⌝ }
+    ensures { λ r. ⌜ outcomeOf r (now (doc .exit)) (now (back .exit)) (now (counts .exit)) ≡ outcome (now (doc .entry)) used (now (back .entry)) (now (counts .entry)) (editing (ofTable (now (table .entry))) (length (now (doc .entry))) (length (now (back .entry))) (record { operation = operation; place = place; piece = now (piece .entry) }) (take used (now (doc .entry))) (now (counts .entry))) ⌝ }
 {
     let mut new = [0u32; paper::MOST_TOKENS];
     let f = form_of(doc, used, operation, place, piece, &mut new);
@@ -91,17 +122,23 @@ fn edit_shaped(
     if back.len() < room {
         return refused(paper::ROOM, 0, used);
     }
+    let mut after = [0u32; 48];
+    if !carried(table, counts, doc, &new, at, cut, f.coming, &mut after) {
+        return refused(paper::COUNTS, 0, used);
+    }
     let seen = judged(table, &new, end, at, f.coming);
     if seen.number != paper::DONE {
         return refused(seen.number, seen.place, used);
     }
     note(back, &doc[..used], operation, place, piece, at, cut);
+    put(counts, &after);
     commit(doc, used, &new, at, end, seen.children)
 }
 
 // An edit: 1 insert, 2 remove, 3 replace, 4 set, 5 drop. "Order: table (13); document shape (4); operation not 1 to 5 (6); piece (4); place
-// (6); result over 8,192 tokens, over 64 deep or over the buffer (5)." Item 2: the second buffer shorter than the inverse needs (5). "Then the
-// edited document is judged [..]." A done edit writes its inverse into the first places of the second buffer.
+// (6); result over 8,192 tokens, over 64 deep or over the buffer (5)." Item 2: the second buffer shorter than the inverse needs (5). Item 7:
+// "any of the 48 counts below 0 or above 8,192 after the edit" (15). "Then the edited document is judged [..]." A done edit writes its
+// inverse into the first places of the second buffer, and moves the counts.
 pub fn edit(
     table: &[u64],
     doc: &mut [u32],
@@ -110,8 +147,9 @@ pub fn edit(
     place: usize,
     piece: &[u32],
     back: &mut [u32],
+    counts: &mut [i32; 48],
 ) -> Answer
-    ensures { λ r. ⌜ outcomeOf r (now (doc .exit)) (now (back .exit)) ≡ edit (now (table .entry)) (now (doc .entry)) used (record { operation = operation; place = place; piece = now (piece .entry) }) (now (back .entry)) ⌝ }
+    ensures { λ r. ⌜ outcomeOf r (now (doc .exit)) (now (back .exit)) (now (counts .exit)) ≡ edit (now (table .entry)) (now (doc .entry)) used (record { operation = operation; place = place; piece = now (piece .entry) }) (now (back .entry)) (now (counts .entry)) ⌝ }
 {
     if !proper::proper(table) {
         return refused(paper::TABLE, 0, used);
@@ -119,5 +157,5 @@ pub fn edit(
     if !shape::shape(doc, used) {
         return refused(paper::SHAPE, 0, used);
     }
-    edit_shaped(table, doc, used, operation, place, piece, back)
+    edit_shaped(table, doc, used, operation, place, piece, back, counts)
 }

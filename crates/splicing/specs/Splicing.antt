@@ -8,7 +8,7 @@ use lib.ListN.{length, take, drop, length-drop, take-append-drop}
 use lib.Seq.{take-nil, take-take, take-length, drop-drop, paste, take-paste, drop-paste, length-paste}
 use Rattle.paper.specs.Edits.{splice}
 
-drop-take : (k u : ℕ) (l : List ℕ) → drop k (take u l) ≡ take (u - k) (drop k l)
+pub drop-take : (k u : ℕ) (l : List ℕ) → drop k (take u l) ≡ take (u - k) (drop k l)
 drop-take zero u l = rw sub-zero
 drop-take (suc k) zero l = rw zero-sub
 drop-take (suc k) (suc u) [] = sym (take-nil (suc u - suc k))

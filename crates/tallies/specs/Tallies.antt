@@ -52,7 +52,7 @@ pub names-long : (f : ℕ → ℕ) (e k : ℕ) → length (namesBy f e k) ≡ k
 names-long f e zero = refl
 names-long f e (suc k) = ap suc (names-long f (suc e) k)
 
-names-at : (f : ℕ → ℕ) (e k i : ℕ) → i < k → getD (namesBy f e k) i 0 ≡ f (e + i)
+pub names-at : (f : ℕ → ℕ) (e k i : ℕ) → i < k → getD (namesBy f e k) i 0 ≡ f (e + i)
 names-at f e zero i h = absurd (omega arith)
 names-at f e (suc k) zero h = ap f (omega arith)
 names-at f e (suc k) (suc i) h = names-at f (suc e) k i (omega arith) ∙ ap f (omega arith)
@@ -67,7 +67,7 @@ tallies-at E d i h = names-at (λ e. counted E e (tally e d)) 0 mostElements i h
 
 -- ---- how many there can be
 
-tally-most : (e : ℕ) (d : List Tok) → tally e d ≤ length d
+pub tally-most : (e : ℕ) (d : List Tok) → tally e d ≤ length d
 tally-most e [] = omega arith
 tally-most e (Start n ∷ d) = go (eqb n e) (tally-most e d)
   where
@@ -95,14 +95,14 @@ tallies-few E l h = names-few (λ e. counted E e (tally e (toks l))) mostTokens 
 
 -- ---- one token more
 
-tally-more : (e : ℕ) (d : List Tok) (t : Tok) → tally e (d ++ (t ∷ [])) ≡ tally e d + tally e (t ∷ [])
-tally-more e [] t = omega arith
-tally-more e (Start n ∷ d) t = omega (arith, tally-more e d t)
-tally-more e (End ∷ d) t = tally-more e d t
-tally-more e (Text n ∷ d) t = tally-more e d t
-tally-more e (Attr n ∷ d) t = tally-more e d t
-tally-more e (Value n ∷ d) t = tally-more e d t
-tally-more e (Bad ∷ d) t = tally-more e d t
+pub tally-append : (e : ℕ) (a b : List Tok) → tally e (a ++ b) ≡ tally e a + tally e b
+tally-append e [] b = omega arith
+tally-append e (Start n ∷ a) b = omega (arith, tally-append e a b)
+tally-append e (End ∷ a) b = tally-append e a b
+tally-append e (Text n ∷ a) b = tally-append e a b
+tally-append e (Attr n ∷ a) b = tally-append e a b
+tally-append e (Value n ∷ a) b = tally-append e a b
+tally-append e (Bad ∷ a) b = tally-append e a b
 
 same-by : (f h : ℕ → ℕ) → ((e : ℕ) → f e ≡ h e) → (e k : ℕ) → namesBy f e k ≡ namesBy h e k
 same-by f h s e zero = refl
@@ -114,7 +114,7 @@ unfolding tallies
 none-more E d t z = same-by (λ e. counted E e (tally e d)) (λ e. counted E e (tally e (d ++ (t ∷ [])))) (λ e. go e (ltb e E) (z e)) 0 mostElements
   where
     go : (e : ℕ) (b : Bool) → cond b (tally e (t ∷ [])) 0 ≡ 0 → cond b (tally e d) 0 ≡ cond b (tally e (d ++ (t ∷ []))) 0
-    go e true w = omega (arith, tally-more e d t)
+    go e true w = omega (arith, tally-append e d (t ∷ []))
     go e false w = refl
 
 nothing : (b : Bool) → _≡_ {A = ℕ} (cond b 0 0) 0
@@ -137,12 +137,12 @@ one-more E n d few below =
         ∙ getD-set-same (tallies E d) n (getD (tallies E d) n 0 + 1) 0 (omega (arith, tallies-long E d))
         ∙ ap (λ k. getD (tallies E d) k 0 + 1) same
         ∙ ap (λ k. k + 1) (tallies-at E d i h ∙ ap (λ b. cond b (tally i d) 0) under)
-        ∙ omega (arith, tally-more i d (Start n), ap {B = ℕ} (λ b. cond b 1 0) e)
+        ∙ omega (arith, tally-append i d (Start n ∷ []), ap {B = ℕ} (λ b. cond b 1 0) e)
         ∙ sym (tallies-at E (d ++ (Start n ∷ [])) i h ∙ ap (λ b. cond b (tally i (d ++ (Start n ∷ []))) 0) under)
     go i h false e =
         getD-set-other (tallies E d) n i (getD (tallies E d) n 0 + 1) 0 (λ s. clash (eq-eqb n i (sym s)) e)
         ∙ tallies-at E d i h
-        ∙ ap (λ k. counted E i k) (omega (arith, tally-more i d (Start n), ap {B = ℕ} (λ b. cond b 1 0) e))
+        ∙ ap (λ k. counted E i k) (omega (arith, tally-append i d (Start n ∷ []), ap {B = ℕ} (λ b. cond b 1 0) e))
         ∙ sym (tallies-at E (d ++ (Start n ∷ [])) i h)
 
 noted-next : (E : ℕ) (d : List Tok) (t : Tok) → E ≤ mostElements → noted E (tallies E d) t ≡ tallies E (d ++ (t ∷ []))
