@@ -7,9 +7,9 @@ use native.Mathlib.Omega.{arith}
 use borrow.Author.Tests.{leb-true, ne-eqb, not-true, not-false}
 use lib.Dec.{leb}
 use lib.IntN.{ℤ, pos, _-ℤ_}
-use lib.ListN.{length, take, drop, length-take}
+use lib.ListN.{length, getD, take, drop, length-take}
 use lib.Seq.{take-take, length-take-le}
-use Rattle.paper.specs.Basics.{mostTokens, all}
+use Rattle.paper.specs.Basics.{mostTokens, mostElements, all}
 use Rattle.paper.specs.Tokens.{toks, touched}
 use Rattle.paper.specs.Shape.{shallow, shapeOf}
 use Rattle.paper.specs.Table.{proper}
@@ -30,6 +30,7 @@ use Rattle.form.specs.Size.{size-is}
 use Rattle.shape_laws.specs.Shaped.{shaped}
 use Rattle.back_laws.specs.Taken.{shape-document}
 use Rattle.back_laws.specs.Sizes.{size-form, size-short, size-iff}
+use Rattle.table_laws.specs.Parts.{table-parts}
 use Rattle.count_laws.specs.Limits.{limit-size, limit-counts, limit-iff}
 use Rattle.counts.specs.Moved.{few}
 use Rattle.counts.specs.Whole.{Moved}
@@ -103,10 +104,11 @@ module _ (op place : ℕ) (piece buf : List ℕ) (used : ℕ) where
       let t = ap length (f .tokens z) in
       let inside : r .at + r .coming ≤ r .used = omega arith in
       let there : take (r .at + r .coming) after ≡ take (at + length (coming op piece)) new
-      = sym (take-take (r .at + r .coming) (r .used) after inside) ∙ ap₂ take (omega arith) (f .tokens z) in
+      = sym (take-take (r .at + r .coming) (r .used) after inside) ∙ ap (take (r .at + r .coming)) (f .tokens z) ∙ ap₂ (λ i n. take (i + n) new) p c in
       let come : drop (r .at) (take (r .at + r .coming) after) ≡ coming op piece
       = ap₂ drop p there ∙ splice-piece at cut (coming op piece) (take used buf) (omega (arith, length-take-le used buf (s .long))) in
       let gone : used + r .coming - r .used ≡ cut = omega arith in
+      let whole : r .at + r .coming - r .at ≡ r .coming = omega arith in
       record {
         old = s .few;
         few = omega arith;
@@ -121,7 +123,7 @@ module _ (op place : ℕ) (piece buf : List ℕ) (used : ℕ) where
         cut = cuts (length buf) q (take used buf) (shape-document buf used sh) a p gone;
         gone = ap₂ (λ k i. take k (drop i buf)) gone p ∙ sym (take-take cut (used - at) (drop at buf) (omega arith))
             ∙ ap (take cut) (sym (drop-take at used buf));
-        come = sym (drop-take (r .at) (r .at + r .coming) after ∙ ap (λ k. take k (drop (r .at) after)) (omega arith)) ∙ come;
+        come = sym (drop-take (r .at) (r .at + r .coming) after ∙ ap (λ k. take k (drop (r .at) after)) whole) ∙ come;
         inner = omega arith;
       }
 
@@ -293,3 +295,25 @@ module _ (op place : ℕ) (piece buf : List ℕ) (used : ℕ) where
 
 pub is-shaped : (buf : List ℕ) (used : ℕ) {z : Bool} → z ≡ shapeOf buf used → not z ≡ false → shapeOf buf used ≡ true
 is-shaped buf used {z} e h = sym e ∙ not-false z h
+
+-- ---- what a proper table has
+
+pub table-first : (t : List ℕ) → proper t ≡ true → 0 < length t
+table-first t p = omega (arith, table-parts t p .long)
+
+pub table-few : (t : List ℕ) → proper t ≡ true → getD t 0 0 ≤ mostElements
+table-few t p = table-parts t p .few-elements
+
+-- ---- a part that is lent
+
+pub part-few : (at n : ℕ) (l : List ℕ) → n ≤ mostTokens → length (take (at + n - at) (drop at l)) ≤ mostTokens
+part-few at n l h = omega (arith, length-take (at + n - at) (drop at l))
+
+pub part-moved : (table : List ℕ) (at cut come : ℕ) (doc new : List ℕ) {counts : List ℤ} {after : List ℕ} {r : Bool}
+    → Moved (getD table 0 0) (toks (take (at + cut - at) (drop at doc))) (toks (take (at + come - at) (drop at new))) counts after r
+    → Moved (ofTable table .elements) (toks (take cut (drop at doc))) (toks (take come (drop at new))) counts after r
+part-moved table at cut come doc new {counts} {after} {r} m =
+    let c : at + cut - at ≡ cut = omega arith in
+    let d : at + come - at ≡ come = omega arith in
+    subst (λ k. Moved (getD table 0 0) (toks (take k (drop at doc))) (toks (take come (drop at new))) counts after r) c
+    (subst (λ k. Moved (getD table 0 0) (toks (take (at + cut - at) (drop at doc))) (toks (take k (drop at new))) counts after r) d m)

@@ -14,7 +14,7 @@ refused-requires c κs = search needs
 returns : tie.Need-returns
 returns c =
     let a = c .before .before .before .before .before .before .before .args in
-    edit-table (a .operation) (a .place) (a .piece .now) (a .doc .now) (a .used) (a .table .now) (a .back .now) (c .before .before .proper .ensures) (c .before .if1 .taken) (c .refused .ensures)
+    edit-table (a .operation) (a .place) (a .piece .now) (a .doc .now) (a .used) (a .table .now) (a .back .now) (a .counts .now) (c .before .before .proper .ensures) (c .before .if1 .taken) (c .refused .ensures)
 
 shape-requires : tie.Need-shape-requires
 shape-requires c κs = search needs
@@ -28,13 +28,13 @@ same-length c = search needs
 returns-2 : tie.Need-returns-2
 returns-2 c =
     let a = c .before .before .before .before .before .before .before .before .before .before .args in
-    edit-shape (a .operation) (a .place) (a .piece .now) (a .doc .now) (a .used) (a .table .now) (a .back .now) (c .before .before .before .before .before .proper .ensures) (c .before .before .before .before .if1 .left) (c .before .before .shape .ensures) (c .before .if2 .taken) (c .refused2 .ensures)
+    edit-shape (a .operation) (a .place) (a .piece .now) (a .doc .now) (a .used) (a .table .now) (a .back .now) (a .counts .now) (c .before .before .before .before .before .proper .ensures) (c .before .before .before .before .if1 .left) (c .before .before .shape .ensures) (c .before .if2 .taken) (c .refused2 .ensures)
 
 edit-shaped-requires : tie.Need-edit-shaped-requires
 edit-shaped-requires c κs =
-    let a = c .before .before .before .before .before .before .before .before .before .before .before .args in (
-      is-proper (a .table .now) (c .before .before .before .before .before .before .proper .ensures) (c .before .before .before .before .before .if1 .left),
-      is-shaped (a .doc .now) (a .used) (c .before .before .before .shape .ensures) (c .before .before .if2 .left),
+    let a = c .before .before .before .before .before .before .before .before .before .before .before .before .args in (
+      is-proper (a .table .now) (c .before .before .before .before .before .before .before .proper .ensures) (c .before .before .before .before .before .before .if1 .left),
+      is-shaped (a .doc .now) (a .used) (c .before .before .before .before .shape .ensures) (c .before .before .before .if2 .left),
     )
 
 same-length-2 : tie.Need-same-length-2
@@ -45,8 +45,8 @@ same-length-3 c = search needs
 
 returns-3 : tie.Need-returns-3
 returns-3 c =
-    let a = c .before .before .before .before .before .before .before .before .before .before .before .before .before .before .before .before .args in
-    edit-whole (a .operation) (a .place) (a .piece .now) (a .doc .now) (a .used) (a .table .now) (a .back .now) (c .before .before .before .before .before .before .before .before .before .before .before .proper .ensures) (c .before .before .before .before .before .before .before .before .before .before .if1 .left) (c .before .before .before .before .before .before .before .before .shape .ensures) (c .before .before .before .before .before .before .before .if2 .left) (c .before .before .before .before .edit-shaped .ensures)
+    let a = c .before .before .before .before .before .before .before .before .before .before .before .before .before .before .before .before .before .args in
+    edit-whole (a .operation) (a .place) (a .piece .now) (a .doc .now) (a .used) (a .table .now) (a .back .now) (a .counts .now) (c .before .before .before .before .before .before .before .before .before .before .before .before .proper .ensures) (c .before .before .before .before .before .before .before .before .before .before .before .if1 .left) (c .before .before .before .before .before .before .before .before .before .shape .ensures) (c .before .before .before .before .before .before .before .before .if2 .left) (c .before .before .before .before .edit-shaped .ensures)
 
 pub edit-spec : {M : Type 1} → statement M
 edit-spec =
