@@ -39,8 +39,8 @@ abbrev pub Tells : (table : List ℕ) → (counts : List ℤ) → (name : ℕ) �
 Tells table counts name o = o ≡ elementsOf table counts name
 
 -- the list of edits: what the last edit that was run came to, with no second buffer, and how many were done
-abbrev pub PerformsList : (table buffer : List ℕ) → (used : ℕ) → (list : List ℕ) → Listed Outcome → Type 0
-PerformsList table buffer used list o = o ≡ editList table buffer used list
+abbrev pub PerformsList : (table buffer : List ℕ) → (used : ℕ) → (list : List ℕ) → (counts : List ℤ) → Listed Outcome → Type 0
+PerformsList table buffer used list counts o = o ≡ editList table buffer used list counts
 
 -- the group: number, place, used length, change in length, which edit was refused, the buffer and the second one
 abbrev pub PerformsGroup : (table buffer : List ℕ) → (used : ℕ) → (list second : List ℕ) → GroupOutcome → Type 0
