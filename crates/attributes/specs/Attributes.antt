@@ -1,5 +1,5 @@
 -- The pass over the attributes and values of one element. Assumes nothing.
-use mathlib.Core.Path.{_≡_, refl, sym, ap, _∙_}
+use mathlib.Core.Path.{_≡_, refl, sym, ap, ap₂, _∙_}
 use mathlib.Core.Bool.{Bool, true, false, cond, not, _&&_, _||_, and-true, and-false, and-assoc, or-false, or-assoc}
 use mathlib.Core.List.{List, [], _∷_}
 use Prim.Native.Nat.{ℕ, zero, suc, _+_, _/_, _^_, _≤_, _<_}
@@ -14,8 +14,8 @@ use Rattle.paper.specs.declared.Tok.the-variants.{Start, End, Text, Attr, Value
 use Rattle.paper.specs.Basics.{every}
 use Rattle.paper.specs.Sets.{bit}
 use Rattle.paper.specs.Tokens.{tokOf, toks, heads, kids, childAt, values}
-use Rattle.paper.specs.Table.{block, cell, allowedAt, requiredAt, idrefsAt, within}
-use Rattle.paper.specs.Rules.{ofTable}
+use Rattle.paper.specs.Table.{fixedAt, block, cell, allowedAt, requiredAt, idrefsAt, within}
+use Rattle.paper.specs.Rules.{Rules, ofTable}
 use Rattle.paper.specs.Judgement.{present, eachAttr, attributesGood}
 use Rattle.basic_laws.specs.Bools.{clash}
 use Rattle.basic_laws.specs.Numbers.{eqb-sym}
@@ -23,6 +23,7 @@ use Rattle.paper_laws.specs.Words.{bit-or, bit-one, bit-zero, bit-past}
 use Rattle.shape_laws.specs.Ends.{rest-next, rest-none}
 use Rattle.tokens.specs.Sorts.{attrTok, valueTok}
 use Rattle.tokens.specs.Theorems.{attr-iff, value-iff}
+use Rattle.fixed_values.specs.Kept.{fixedKept, kept-none}
 use Rattle.attributes.specs.declared.Met.{Met}
 use Rattle.attributes.specs.declared.Front.{Front}
 
@@ -73,12 +74,50 @@ module _ (m : Met) where
   pub finish-is : (required : ℕ) {y : Bool} → y ≡ within required (m .set) → m .good && not (eqb (m .takes) 1) && y ≡ finish required m
   finish-is required e = rw e
 
--- the answer of the pass: whether the attributes are good, and a place behind them, where the same children stand at the same places
+-- "each one allowed, all required present, one value each unless IDREFS"
+unfoldable pub listedGood : Rules → ℕ → List Tok → Bool
+listedGood R e h =
+    eachAttr (λ a r. R .allowed e a) h
+    && every (λ a. not (R .required e a) || present a h) 64
+    && eachAttr (λ a r. R .idrefs e a || eqb (values r) 1) h
+
+-- the answer of the pass: whether the attributes are good so far, and a place behind them, where the same children stand at the same places
+pub record Listed (table : List ℕ) (e : ℕ) (doc : List ℕ) (used at : ℕ) (r : Front) : Type 0 where
+  pub good-is : r .good ≡ listedGood (ofTable table) e (heads (drop at (toks (take used doc))))
+  pub within : r .after ≤ used
+  pub same : kids zero (drop (r .after) (toks (take used doc))) ≡ kids zero (drop at (toks (take used doc)))
+  pub places : (j : ℕ) → r .after + childAt j zero (drop (r .after) (toks (take used doc))) ≡ at + childAt j zero (drop at (toks (take used doc)))
+
+-- the whole answer
 pub record Judged (table : List ℕ) (e : ℕ) (doc : List ℕ) (used at : ℕ) (r : Front) : Type 0 where
   pub good-is : r .good ≡ attributesGood (ofTable table) e (heads (drop at (toks (take used doc))))
   pub within : r .after ≤ used
   pub same : kids zero (drop (r .after) (toks (take used doc))) ≡ kids zero (drop at (toks (take used doc)))
   pub places : (j : ℕ) → r .after + childAt j zero (drop (r .after) (toks (take used doc))) ≡ at + childAt j zero (drop at (toks (take used doc)))
+
+-- both tests are those of the judgement
+good-parts : (table : List ℕ) (e : ℕ) (h : List Tok) → attributesGood (ofTable table) e h ≡ listedGood (ofTable table) e h && fixedKept table e h
+unfolding attributesGood listedGood fixedKept
+good-parts table e h = refl
+
+module _ {table : List ℕ} {e : ℕ} {doc : List ℕ} {used at : ℕ} {f : Front} (c : Listed table e doc used at f) where
+  pub none-fixed : getD table fixedAt 0 ≡ 0 → Judged table e doc used at f
+  none-fixed z =
+      let h : List Tok = heads (drop at (toks (take used doc))) in
+      record {
+        good-is = c .good-is ∙ sym (good-parts table e h ∙ ap (λ b. listedGood (ofTable table) e h && b) (kept-none table e z h) ∙ and-true (listedGood (ofTable table) e h));
+        within = c .within;
+        same = c .same;
+        places = c .places;
+      }
+
+  pub some-fixed : {k : Bool} → k ≡ fixedKept table e (heads (drop at (toks (take used doc)))) → Judged table e doc used at (record { good = f .good && k; after = f .after })
+  some-fixed {k} q = record {
+    good-is = ap₂ (λ a b. a && b) (c .good-is) q ∙ sym (good-parts table e (heads (drop at (toks (take used doc)))));
+    within = c .within;
+    same = c .same;
+    places = c .places;
+  }
 
 -- ---- what is left to show, of the heads h behind what was passed
 
@@ -176,9 +215,9 @@ abbrev pub begins : Met
 begins = record { set = 0; takes = 2; good = true }
 
 shows-begin : (table : List ℕ) (e : ℕ) (h : List Tok)
-    → attributesGood (ofTable table) e h
+    → listedGood (ofTable table) e h
     ≡ shows (cell (block table e) requiredAt) (cell (block table e) allowedAt) (cell (block table e) idrefsAt) begins h
-unfolding attributesGood shows
+unfolding listedGood shows
 shows-begin table e h =
     and-assoc (eachAttr (λ a r. bit (cell (block table e) allowedAt) a) h) _ _
     ∙ ap (λ v. eachAttr (λ a r. bit (cell (block table e) allowedAt) a) h && (v && counted (cell (block table e) idrefsAt) 2 h))
@@ -189,7 +228,7 @@ shows-begin table e h =
 -- up to place i: what the attributes from place `at` on must show is what those from place i on must
 pub record Passing (table : List ℕ) (e : ℕ) (doc : List ℕ) (used at required allowed idrefs : ℕ) (m : Met) (i : ℕ) : Type 0 where
   pub here : i ≤ used
-  pub left : attributesGood (ofTable table) e (heads (drop at (toks (take used doc)))) ≡ shows required allowed idrefs m (heads (drop i (toks (take used doc))))
+  pub left : listedGood (ofTable table) e (heads (drop at (toks (take used doc)))) ≡ shows required allowed idrefs m (heads (drop i (toks (take used doc))))
   pub same : kids zero (drop i (toks (take used doc))) ≡ kids zero (drop at (toks (take used doc)))
   pub places : (j : ℕ) → i + childAt j zero (drop i (toks (take used doc))) ≡ at + childAt j zero (drop at (toks (take used doc)))
 
@@ -228,14 +267,14 @@ module _ (table : List ℕ) (e : ℕ) (doc : List ℕ) (used at : ℕ) where
             places = λ j. let p = rw q at (c .places j) in rw add-one (omega arith);
           })
 
-    ended : {y : Bool} → heads (drop i d) ≡ [] → y ≡ finish required m → Judged table e doc used at (record { good = y; after = i })
+    ended : {y : Bool} → heads (drop i d) ≡ [] → y ≡ finish required m → Listed table e doc used at (record { good = y; after = i })
     ended z ey = record { good-is = ey ∙ shows-end _ _ _ m ∙ sym (rw z at (c .left)); within = c .here; same = c .same; places = c .places }
 
-    pub passing-out : {y : Bool} → used ≤ i → y ≡ finish required m → Judged table e doc used at (record { good = y; after = i })
+    pub passing-out : {y : Bool} → used ≤ i → y ≡ finish required m → Listed table e doc used at (record { good = y; after = i })
     passing-out h ey = let z : i ≡ used = omega (arith, c .here) in ended (rw (z, rest-none doc used)) ey
 
     pub passing-other : {x y z : Bool} → i < used → used ≤ length doc → x ≡ attrTok (tokOf (getD doc i 0)) → x ≡ false
-        → y ≡ valueTok (tokOf (getD doc i 0)) → y ≡ false → z ≡ finish required m → Judged table e doc used at (record { good = z; after = i })
+        → y ≡ valueTok (tokOf (getD doc i 0)) → y ≡ false → z ≡ finish required m → Listed table e doc used at (record { good = z; after = i })
     passing-other h l ex f ey g ez = ended (rw (rest-next doc used i h l) (no-head (tokOf (getD doc i 0)) (sym ex ∙ f) (sym ey ∙ g))) ez
       where
         no-head : (t : Tok) → attrTok t ≡ false → valueTok t ≡ false → heads (t ∷ drop (suc i) d) ≡ []

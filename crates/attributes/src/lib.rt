@@ -1,7 +1,10 @@
 // The attributes of one element: whether they are as they must be.
 //
 // One pass over the attributes and values behind a start. It notes which attributes were met and how many values the last one still
-// takes, and tells where it ended. The table is a proper one, and nothing is written. Assumes nothing.
+// takes, and tells where it ended. Only where the table has fixed attributes, a second one looks at their values. The table is a proper
+// one, and nothing is written. Assumes nothing.
+use fixed_values::fixed_kept;
+use paper::FIXED_AT;
 use sets::has;
 use sets::is_within;
 use sets::with;
@@ -14,7 +17,7 @@ ghost use mathlib.Core.Bool.{true};
 ghost use Prim.Native.Nat.{_≤_, _<_};
 ghost use lib.ListN.{length, getD};
 ghost use Rattle.paper.specs.Table.{proper};
-ghost use Rattle.attributes.specs.Attributes.{attributeOf, valueOf, finish, Judged};
+ghost use Rattle.attributes.specs.Attributes.{attributeOf, valueOf, finish, Listed, Judged};
 
 // What the attributes and values passed so far leave: the attributes met; how many values the last one still takes, 2 for any number;
 // and whether each was as it must be.
@@ -91,9 +94,9 @@ fn finished(required: u64, m: Met) -> bool
 }
 
 // "attributes (8): each one allowed, all required present, one value each unless IDREFS": those that stand from a place on.
-pub fn attributes(table: &[u64], e: usize, doc: &[u32], used: usize, at: usize) -> Front
+fn listed(table: &[u64], e: usize, doc: &[u32], used: usize, at: usize) -> Front
     requires { ⌜ (proper (now table) ≡ true) × (e < getD (now table) 0 0) × (used ≤ length (now doc)) × (at ≤ used) ⌝ }
-    ensures { λ r. ⌜ Judged (now (table .entry)) e (now (doc .entry)) used at r ⌝ }
+    ensures { λ r. ⌜ Listed (now (table .entry)) e (now (doc .entry)) used at r ⌝ }
 {
     let allowed = cell(table, e, paper::ALLOWED_AT);
     let idrefs = cell(table, e, paper::IDREFS_AT);
@@ -121,5 +124,21 @@ pub fn attributes(table: &[u64], e: usize, doc: &[u32], used: usize, at: usize) 
     Front {
         good: finished(required, m),
         after: i,
+    }
+}
+
+// The same, and a fixed attribute "may be absent, and if present has exactly that value, else 8".
+pub fn attributes(table: &[u64], e: usize, doc: &[u32], used: usize, at: usize) -> Front
+    requires { ⌜ (proper (now table) ≡ true) × (e < getD (now table) 0 0) × (used ≤ length (now doc)) × (at ≤ used) ⌝ }
+    ensures { λ r. ⌜ Judged (now (table .entry)) e (now (doc .entry)) used at r ⌝ }
+{
+    let front = listed(table, e, doc, used, at);
+    if table[FIXED_AT] == 0 {
+        return front;
+    }
+    let kept = fixed_kept(table, e, doc, used, at);
+    Front {
+        good: front.good & kept,
+        after: front.after,
     }
 }

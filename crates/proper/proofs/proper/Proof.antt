@@ -1,7 +1,7 @@
 -- `proper` meets its contract. Assumes nothing.
 use native.Mathlib.Omega.{arith}
 use borrow.Author.Needs.{needs}
-use Rattle.proper.specs.Whole.{wrong-length, no-elements, many-elements, no-root, not-unused, table-test}
+use Rattle.proper.specs.Whole.{wrong-length, no-elements, many-elements, no-root, not-unused, not-fixed, table-test}
 use Rattle.proper.proofs.proper.Statement.{statement}
 use Rattle.proper.proofs.proper.Tie as tie
 
@@ -29,11 +29,17 @@ unused-from-requires c κs = search needs
 returns-5 : tie.Need-returns-5
 returns-5 c = search not-unused
 
+proper-fixed-requires : tie.Need-proper-fixed-requires
+proper-fixed-requires c κs = search needs
+
+returns-6 : tie.Need-returns-6
+returns-6 c = search not-fixed
+
 proper-blocks-requires : tie.Need-proper-blocks-requires
 proper-blocks-requires c κs = search needs
 
-returns-6 : tie.Need-returns-6
-returns-6 c = search table-test
+returns-7 : tie.Need-returns-7
+returns-7 c = search table-test
 
 pub proper-spec : {M : Type 1} → statement M
 proper-spec =
@@ -47,5 +53,7 @@ proper-spec =
     returns-4
     unused-from-requires
     returns-5
+    proper-fixed-requires
+    returns-6
     proper-blocks-requires
-    returns-6)
+    returns-7)

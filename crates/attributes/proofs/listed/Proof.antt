@@ -1,10 +1,10 @@
--- `attributes::attributes` meets its contract. The loop's invariant is `Passing`; the measure is how many tokens are left. Assumes nothing.
+-- `attributes::listed` meets its contract. The loop's invariant is `Passing`; the measure is how many tokens are left. Assumes nothing.
 use Prim.Native.Nat.{_-_}
 use mathlib.Core.Logic.{⊎-elim}
 use borrow.Author.Needs.{needs}
 use Rattle.attributes.specs.Attributes.{Passing, passing-begin, passing-attribute, passing-value, passing-other, passing-out}
-use Rattle.attributes.proofs.attributes.Statement.{statement}
-use Rattle.attributes.proofs.attributes.Tie as tie
+use Rattle.attributes.proofs.listed.Statement.{statement}
+use Rattle.attributes.proofs.listed.Tie as tie
 
 abbrev Inv-loop : tie.InvT-loop
 Inv-loop table e doc used at allowed idrefs required m₀ i₀ m i = Passing table e doc used at required allowed idrefs m i
@@ -69,8 +69,8 @@ finished-requires c κs = search needs
 returns : tie.Need-returns Inv-loop μ-loop
 returns c = ⊎-elim (λ w. search passing-out) (λ w. search passing-other) (c .before .loop-test .came)
 
-pub attributes-spec : {M : Type 1} → statement M
-attributes-spec =
+pub listed-spec : {M : Type 1} → statement M
+listed-spec =
     tie.close
     (tie.spec
     Inv-loop
