@@ -46,12 +46,13 @@ kept-none t e z h = each h
 
 -- ---- one attribute
 
-module _ (t : List ℕ) (e a : ℕ) (r : List Tok) {w : Fixed} (q : valueOf w ≡ fixedBy (entries (fixedPart t)) e a) where
-  pub kept-free : w ≡ Free → true ≡ fixedGood (fixedBy (entries (fixedPart t)) e a) r
-  kept-free c = rw (← q, c)
+module _ (t : List ℕ) (e a : ℕ) (r : List Tok) (w : Fixed) where
+  pub kept-free : w ≡ Free → valueOf w ≡ fixedBy (entries (fixedPart t)) e a → true ≡ fixedGood (fixedBy (entries (fixedPart t)) e a) r
+  kept-free c q = rw (← q, c)
 
-  pub kept-to : {v : ℕ} {b : Bool} → w ≡ To v → b ≡ onlyValue v r → b ≡ fixedGood (fixedBy (entries (fixedPart t)) e a) r
-  kept-to c d = rw (← q, c) d
+  pub kept-to : {v : ℕ} {b : Bool} → w ≡ To v → valueOf w ≡ fixedBy (entries (fixedPart t)) e a → b ≡ onlyValue v r
+      → b ≡ fixedGood (fixedBy (entries (fixedPart t)) e a) r
+  kept-to c q d = rw (← q, c) d
 
 -- ---- one after another
 

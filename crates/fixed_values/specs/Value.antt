@@ -1,12 +1,11 @@
 -- The value to which an attribute is fixed, looked for among the entries. Assumes nothing.
 use mathlib.Core.Path.{_≡_, refl, sym, ap, _∙_}
-use mathlib.Core.Bool.{Bool, true, false, _&&_}
+use mathlib.Core.Bool.{true, false, _&&_, and-eq-true-iff}
 use mathlib.Core.Option.{Option, none, some}
 use mathlib.Core.List.{List}
-use Prim.Native.Nat.{ℕ, _+_, _-_, _≤_, _<_}
+use Prim.Native.Nat.{ℕ, _+_, _-_, _*_, _≤_, _<_}
 use native.Mathlib.Omega.{arith}
 use borrow.Author.Tests.{leb-true}
-use mathlib.Core.Bool.{and-eq-true-iff}
 use lib.Dec.{leb, eqb}
 use lib.ListN.{length, drop, getD}
 use Rattle.paper.specs.Basics.{mostFixed, all}
@@ -57,9 +56,6 @@ module _ (t : List ℕ) (e a : ℕ) where
     looking-all h = let z : n - i ≡ 0 = omega arith in sym (c .left ∙ rw z)
 
     module _ (h : i < n) where
-      next : fixedBy (entries (fixedPart t)) e a ≡ fixedBy (entriesIn (n - i) (drop (entryAt i) t)) e a
-      next = c .left
-
       pub looking-found : eqb e (getD t (entryAt i) 0) && eqb a (getD t (entryAt i + 1) 0) ≡ true
           → some (getD t (entryAt i + 2) 0) ≡ fixedBy (entries (fixedPart t)) e a
       looking-found q = sym (c .left ∙ ap (λ l. fixedBy l e a) (entry-next t n i h refl refl refl) ∙ rw q)

@@ -34,7 +34,8 @@ fn value_of(table: &[u64], e: u64, a: u64) -> Fixed
     while i < n {
         let at = FIXED_AT + 1 + i * ENTRY_WORDS;
         if (e == table[at]) & (a == table[at + 1]) {
-            return Fixed::To(table[at + 2]);
+            let v = table[at + 2];
+            return Fixed::To(v);
         }
         i += 1;
     }
