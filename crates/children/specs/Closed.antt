@@ -1,39 +1,32 @@
 -- From a child to the next. Assumes nothing.
 use mathlib.Core.Path.{_≡_, refl, ap, _∙_}
-use mathlib.Core.Bool.{cond}
 use mathlib.Core.List.{List, [], _∷_, _++_}
 use Prim.Native.Nat.{ℕ, zero, suc, _+_, _≤_, _<_}
-use native.Mathlib.Numerals.{add-one}
-use native.Mathlib.Decide.{decLt}
 use native.Mathlib.Omega.{arith}
-use borrow.Author.Tests.{lt-ltb, le-ltb}
-use lib.Dec.{ltb}
-use lib.ListN.{length, take, drop, getD, length-append, length-drop}
+use lib.ListN.{length, take, drop, getD, length-drop}
 use lib.Seq.{drop-drop}
 use Rattle.paper.specs.declared.Tok.{Tok}
 use Rattle.paper.specs.declared.Tok.the-variants.{Start, End, Text, Attr, Value, Bad}
-use Rattle.paper.specs.Tokens.{toks, kids, close}
+use Rattle.paper.specs.Tokens.{toks, kids, close, endOf}
 use Rattle.paper.specs.Rules.{State}
-use Rattle.shape_laws.specs.Ends.{rest-none}
+use Rattle.shape_laws.specs.Ends.{close-out, end-begin}
 use Rattle.shape_laws.specs.Bridge.{length-toks}
 use Rattle.places.specs.Items.{close-le}
-use Rattle.closing.specs.Closing.{closing, closing-length, closed-at}
+use Rattle.closing.specs.Closing.{closing, closed-at}
 use Rattle.stops.specs.Stop.{modelStop}
 
--- `closes` has, for each place of the document, the place of the end that closes the element that is open there
+-- `closes`, if it is long enough, has for each place of the document the place of the end that closes the element that is open there
 pub record Closed (doc : List ℕ) (used : ℕ) (closes : List ℕ) : Type 0 where
-  pub long : used ≤ length closes
-  pub ends : (p : ℕ) → p < used → getD closes p 0 ≡ p + close zero (drop p (toks (take used doc)))
+  pub ends : used ≤ length closes → (p : ℕ) → p < used → getD closes p 0 ≡ p + close zero (drop p (toks (take used doc)))
 
 -- as `closing::closes` leaves it
 pub closed : (doc : List ℕ) (used : ℕ) (left : List ℕ) {out : List ℕ} → used ≤ length doc → out ≡ closing 0 (toks (take used doc)) ++ left
     → Closed doc used out
-closed doc used left l e =
-    let d : List Tok = toks (take used doc) in
-    record {
-      long = rw e (omega (arith, length-append (closing 0 d) left, closing-length 0 d, length-toks doc used l));
-      ends = closed-at d used (length-toks doc used l) left e;
-    }
+closed doc used left l e = record { ends = λ h. closed-at (toks (take used doc)) used (length-toks doc used l) left e }
+
+-- none are given
+pub closed-none : (doc : List ℕ) (used : ℕ) (closes : List ℕ) → length closes ≡ 0 → Closed doc used closes
+closed-none doc used closes e = record { ends = λ h p g. absurd (omega arith) }
 
 -- the same place, counted from one token earlier
 further : (b : List ℕ) (end : ℕ) (s : State) (i c : ℕ) (r : List Tok)
@@ -62,15 +55,23 @@ kids-under k (Attr n ∷ r) = kids-under k r
 kids-under k (Value n ∷ r) = kids-under k r
 kids-under k (Bad ∷ r) = kids-under k r
 
--- the place behind the element that starts at place i, as the code reads it
+-- the place behind the element that starts at place i
 abbrev pub behind : List ℕ → ℕ → ℕ → ℕ
-behind closes used i = cond (ltb (i + 1) used) (getD closes (i + 1) 0 + 1) used
+behind doc used i = endOf (toks (take used doc)) i + 1
 
-pub behind-end : (closes : List ℕ) (used i : ℕ) → i + 1 < used → getD closes (i + 1) 0 + 1 ≡ behind closes used i
-behind-end closes used i h = rw (lt-ltb (i + 1) used h)
+module _ (doc : List ℕ) (used i : ℕ) (l : used ≤ length doc) (h : i < used) where
+  pub behind-within : endOf (toks (take used doc)) i ≤ used
+  behind-within =
+      let d : List Tok = toks (take used doc) in
+      omega (arith, end-begin d i, close-le 0 (drop (i + 1) d), length-drop (i + 1) d, length-toks doc used l)
 
-pub behind-last : (closes : List ℕ) (used i : ℕ) → used ≤ i + 1 → used ≡ behind closes used i
-behind-last closes used i h = rw (le-ltb (i + 1) used h)
+  pub behind-end : (closes : List ℕ) → Closed doc used closes → used ≤ length closes → i + 1 < used → getD closes (i + 1) 0 + 1 ≡ behind doc used i
+  behind-end closes c m g = omega (arith, c .ends m (i + 1) g, end-begin (toks (take used doc)) i)
+
+  pub behind-last : used ≤ i + 1 → used + 1 ≡ behind doc used i
+  behind-last g =
+      let e : i + 1 ≡ used = omega arith in
+      omega (arith, end-begin (toks (take used doc)) i, close-out doc used (i + 1) 0 e)
 
 -- it is further on, and what stands there are the next children: they are the same, and so is where they stop
 pub record Next (b doc : List ℕ) (used i r : ℕ) : Type 0 where
@@ -79,21 +80,17 @@ pub record Next (b doc : List ℕ) (used i r : ℕ) : Type 0 where
   pub others : kids 1 (drop (suc i) (toks (take used doc))) ≡ kids zero (drop r (toks (take used doc)))
   pub same : (s : State) → modelStop b used s 1 (suc i) (drop (suc i) (toks (take used doc))) ≡ modelStop b used s zero r (drop r (toks (take used doc)))
 
-pub next-is : (b doc : List ℕ) (used : ℕ) (closes : List ℕ) → Closed doc used closes → used ≤ length doc → (i : ℕ) → i < used
-    → Next b doc used i (behind closes used i)
-next-is b doc used closes c l i h = elim (decLt (i + 1) used) [
-  | yes g ↦
-      let e : getD closes (i + 1) 0 ≡ suc i + close zero (drop (suc i) d) = c .ends (i + 1) g ∙ rw add-one in
-      let z : suc i + suc (close zero (drop (suc i) d)) ≡ behind closes used i = omega (arith, behind-end closes used i g) in
-      rw (← z) (record {
-        on = omega arith;
-        here = omega (arith, close-le zero (drop (suc i) d), length-drop (suc i) d, length-toks doc used l);
-        others = kids-under zero (drop (suc i) d) ∙ ap (kids zero) (drop-drop (suc (close zero (drop (suc i) d))) (suc i) d);
-        same = λ s. model-under b used s zero (suc i) (drop (suc i) d)
-            ∙ ap (modelStop b used s zero (suc i + suc (close zero (drop (suc i) d)))) (drop-drop (suc (close zero (drop (suc i) d))) (suc i) d);
-      })
-  | no g ↦ let e : suc i ≡ used = omega arith in rw (← behind-last closes used i (omega arith)) (record { on = h; here = omega arith; others = rw (e, rest-none doc used); same = λ s. rw (e, rest-none doc used) })
-]
+pub next-is : (b doc : List ℕ) (used : ℕ) → used ≤ length doc → (i : ℕ) → i < used → Next b doc used i (behind doc used i)
+unfolding endOf
+next-is b doc used l i h =
+    let z : suc i + suc (close zero (drop (suc i) d)) ≡ behind doc used i = omega arith in
+    rw (← z) (record {
+      on = omega arith;
+      here = omega (arith, close-le zero (drop (suc i) d), length-drop (suc i) d, length-toks doc used l);
+      others = kids-under zero (drop (suc i) d) ∙ ap (kids zero) (drop-drop (suc (close zero (drop (suc i) d))) (suc i) d);
+      same = λ s. model-under b used s zero (suc i) (drop (suc i) d)
+          ∙ ap (modelStop b used s zero (suc i + suc (close zero (drop (suc i) d)))) (drop-drop (suc (close zero (drop (suc i) d))) (suc i) d);
+    })
   where
     d : List Tok
     d = toks (take used doc)

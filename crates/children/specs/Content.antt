@@ -77,7 +77,7 @@ module _ (table : List ℕ) (e : ℕ) {kind : ℕ} (ek : kind ≡ cell (block ta
 
 -- ---- the place
 
-child-within : (j k : ℕ) (d : List Tok) → childAt j k d ≤ length d
+pub child-within : (j k : ℕ) (d : List Tok) → childAt j k d ≤ length d
 child-within j k [] = omega arith
 child-within j (suc k) (Start n ∷ d) = suc-le-suc (child-within j (suc (suc k)) d)
 child-within zero zero (Start n ∷ d) = omega arith

@@ -22,7 +22,7 @@ use Rattle.tokens.specs.Theorems.{start-iff, end-iff, text-iff}
 use Rattle.stops.specs.declared.Stop.{Stop}
 use Rattle.stops.specs.declared.Stop.the-variants.{Nowhere, At}
 use Rattle.stops.specs.Stop.{stopped, modelStop}
-use Rattle.children.specs.Closed.{Closed, behind, Next, next-is}
+use Rattle.children.specs.Closed.{behind, Next, next-is}
 
 -- ---- no child is left
 
@@ -90,13 +90,13 @@ module _ (b doc : List ℕ) (used at : ℕ) where
               go none f = refl
               go (some t) f = clash refl f
 
-          pub running-child : (closes : List ℕ) {r : ℕ} → not y ≡ false → Closed doc used closes → r ≡ behind closes used i → Running b doc used at r q
-          running-child closes {r} g k er = go (stateOf q) refl (sym ey ∙ not-false y g)
+          pub running-child : {r : ℕ} → not y ≡ false → r ≡ behind doc used i → Running b doc used at r q
+          running-child {r} g er = go (stateOf q) refl (sym ey ∙ not-false y g)
             where
               go : (o : Option State) → stateOf q ≡ o → goesOn o ≡ true → Running b doc used at r q
               go none e g = clash g refl
               go (some t) e g =
-                  let z : Next b doc used i (behind closes used i) = next-is b doc used closes k l i h in
+                  let z : Next b doc used i (behind doc used i) = next-is b doc used l i h in
                   rw er (record { here = z .here; state = t; stands = e; within = s .within; left = rw e at child ∙ z .same t })
 
         pub running-other : {y z : Bool} → x ≡ false → y ≡ ends (tokOf (getD doc i 0)) → y ≡ false → z ≡ textTok (tokOf (getD doc i 0)) → z ≡ false
@@ -116,5 +116,5 @@ module _ (b doc : List ℕ) (used at : ℕ) where
       pub running-text : {z : Bool} → z ≡ textTok (tokOf (getD doc i 0)) → z ≡ true → At i ≡ modelStop b used start zero at (drop at (toks (take used doc)))
       running-text ez t = sym (next (text-iff (getD doc i 0) .0 (sym ez ∙ t)))
 
-      pub child-on : (closes : List ℕ) {r : ℕ} → Closed doc used closes → r ≡ behind closes used i → used - r < used - i
-      child-on closes k er = let z : Next b doc used i (behind closes used i) = next-is b doc used closes k l i h in rw er (omega (arith, z .on))
+      pub child-on : {r : ℕ} → r ≡ behind doc used i → used - r < used - i
+      child-on er = let z : Next b doc used i (behind doc used i) = next-is b doc used l i h in rw er (omega (arith, z .on))

@@ -2,6 +2,7 @@
 //
 // One pass over the children, which jumps from a child's start behind its end, and is left at the first with which no valid content begins.
 // Texts are counted, by `stops`; a model is run. The table is a proper one, and nothing is written. Assumes nothing.
+use places::end_of;
 use stops::Stop;
 use stops::texts_stop;
 use table::Run;
@@ -22,16 +23,20 @@ ghost use Rattle.table.specs.Run.{stateOf, inside, Ready};
 ghost use Rattle.stops.specs.Stop.{stopped, modelStop, contentStop};
 ghost use Rattle.children.specs.Closed.{Closed, behind};
 
-// The place behind the element that starts at place i.
-pub fn behind(closes: &[u32], used: usize, i: usize) -> usize
-    requires { ⌜ (used ≤ length (now closes)) × (i < used) ⌝ }
-    ensures { λ r. ⌜ r ≡ behind (now (closes .entry)) used i ⌝ }
+// The place behind the element that starts at place i: by its matching end, where matching ends are given, and else looked for.
+pub fn behind(doc: &[u32], used: usize, closes: &[u32], i: usize) -> usize
+    requires { ⌜ Closed (now doc) used (now closes) ⌝ }
+    requires { ⌜ (used ≤ length (now doc)) × (i < used) ⌝ }
+    ensures { λ r. ⌜ r ≡ behind (now (doc .entry)) used i ⌝ }
 {
+    if closes.len() < used {
+        return end_of(doc, used, i) + 1;
+    }
     let j = i + 1;
     if j < used {
         return closes[j] as usize + 1;
     }
-    used
+    used + 1
 }
 
 // "or the element's end token if the children stop too early": the run, where no child is left, and the place of that token.
@@ -62,7 +67,7 @@ fn model_stop(block: &[u64], doc: &[u32], used: usize, closes: &[u32], at: usize
             if !run.goes_on() {
                 return Stop::At(i);
             }
-            i = behind(closes, used, i);
+            i = behind(doc, used, closes, i);
             continue;
         }
         if is_end(t) {

@@ -16,7 +16,7 @@ use Rattle.shape_laws.specs.Bridge.{length-toks}
 use Rattle.tokens.specs.Sorts.{ends, textTok}
 use Rattle.tokens.specs.Theorems.{start-iff, end-iff}
 use Rattle.depths.specs.Depths.{one-le}
-use Rattle.children.specs.Closed.{Closed, behind, Next, next-is}
+use Rattle.children.specs.Closed.{behind, Next, next-is}
 
 -- what is no start and no end counts if it is a text
 other : (x : Tok) (r : List Tok) → starts x ≡ false → ends x ≡ false → length (kids zero (x ∷ r)) ≡ boolByte (textTok x) + length (kids zero r)
@@ -48,9 +48,9 @@ module _ (doc : List ℕ) (used at : ℕ) where
       next e = rw (rest-next doc used i h l, e)
 
       module _ {x : Bool} (ex : x ≡ starts (tokOf (getD doc i 0))) where
-        pub counting-child : (closes : List ℕ) {r : ℕ} → x ≡ true → Closed doc used closes → r ≡ behind closes used i → Counting doc used at r (n + 1)
-        counting-child closes {r} t k er =
-            let z : Next [] doc used i (behind closes used i) = next-is [] doc used closes k l i h in
+        pub counting-child : {r : ℕ} → x ≡ true → r ≡ behind doc used i → Counting doc used at r (n + 1)
+        counting-child {r} t er =
+            let z : Next [] doc used i (behind doc used i) = next-is [] doc used l i h in
             let s = next (start-iff (getD doc i 0) .0 (sym ex ∙ t)) in
             rw er (record { here = z .here; few = omega (arith, c .few, z .on); left = omega (arith, c .left, s, ap length (z .others)) })
 
@@ -63,8 +63,8 @@ module _ (doc : List ℕ) (used at : ℕ) where
       pub counting-end : {y : Bool} → y ≡ ends (tokOf (getD doc i 0)) → y ≡ true → n ≡ length (kids zero (drop at (toks (take used doc))))
       counting-end ey t = omega (arith, c .left, next (end-iff (getD doc i 0) .0 (sym ey ∙ t)))
 
-      pub child-on : (closes : List ℕ) {r : ℕ} → Closed doc used closes → r ≡ behind closes used i → used - r < used - i
-      child-on closes k er = let z : Next [] doc used i (behind closes used i) = next-is [] doc used closes k l i h in rw er (omega (arith, z .on))
+      pub child-on : {r : ℕ} → r ≡ behind doc used i → used - r < used - i
+      child-on er = let z : Next [] doc used i (behind doc used i) = next-is [] doc used l i h in rw er (omega (arith, z .on))
 
 -- there are no more children than tokens
 pub kids-few : (k : ℕ) (d : List Tok) → length (kids k d) ≤ length d

@@ -29,7 +29,7 @@ fn children_from(doc: &[u32], used: usize, closes: &[u32], at: usize) -> u32
         let t = doc[i];
         if is_start(t) {
             n += 1;
-            i = behind(closes, used, i);
+            i = behind(doc, used, closes, i);
             continue;
         }
         if is_end(t) {

@@ -13,6 +13,8 @@ use Rattle.paper.specs.Judgement.{Answer, first, placeOf, elementFault, orElse}
 use Rattle.shape_laws.specs.Bridge.{toks-take, length-toks}
 use Rattle.shape_laws.specs.Touch.{inside, touched-is, parentOf}
 use Rattle.keys.specs.declared.Fault.{Fault}
+use Rattle.shape_laws.specs.Widths.{Comes}
+use Rattle.piece_faults.specs.Piece.{firstOf, piece-is}
 use Rattle.judge.specs.Elements.{numberAt, faultOf, found-first, found-none, firstIn, first-same}
 
 -- the first fault among the touched elements
@@ -52,9 +54,11 @@ module _ (table doc : List ℕ) (used at n : ℕ) (l : used ≤ length doc) (h :
   no-parent : at ≤ p → (j : ℕ) → parent (take at (toks (take used doc))) j ≡ false
   no-parent g j = rw before-is (parent-no (toks (take at doc)) (omega (arith, length-toks doc at (omega arith))) j)
 
-  pub touched-alone : {f : Fault} → at ≤ p → (f .number, f .place) ≡ firstIn table doc used at (at + n) → (f .number, f .place) ≡ touchedFirst table doc used at n
-  touched-alone g e =
+  pub touched-alone : {f : Fault} → at ≤ p → Comes (drop at (toks (take (at + n) doc))) → (f .number, f .place) ≡ firstOf table doc at n
+      → (f .number, f .place) ≡ touchedFirst table doc used at n
+  touched-alone g c e =
       e
+      ∙ piece-is table doc used at n l h c
       ∙ sym
       (first-same (elementFault (ofTable table)) (placeOf (ofTable table)) (touched at n (toks (take used doc))) (inside at n) 0 (toks (take used doc))
       (λ j k. ap (λ b. b || inside at n (0 + j)) (no-parent g (0 + j))))
@@ -75,5 +79,6 @@ module _ (table doc : List ℕ) (used at n : ℕ) (l : used ≤ length doc) (h :
     pub touched-parent : (a .0 ≡ 0 → ⊥) → a ≡ touchedFirst table doc used at n
     touched-parent f = found-first number place (firstIn table doc used at (at + n)) ea f ∙ both
 
-    pub touched-piece : {f : Fault} → a .0 ≡ 0 → (f .number, f .place) ≡ firstIn table doc used at (at + n) → (f .number, f .place) ≡ touchedFirst table doc used at n
-    touched-piece z e = e ∙ ap (λ x. orElse x place (firstIn table doc used at (at + n))) (sym (found-none number place ea z)) ∙ both
+    pub touched-piece : {f : Fault} → a .0 ≡ 0 → Comes (drop at (toks (take (at + n) doc))) → (f .number, f .place) ≡ firstOf table doc at n
+        → (f .number, f .place) ≡ touchedFirst table doc used at n
+    touched-piece z c e = e ∙ piece-is table doc used at n l h c ∙ ap (λ x. orElse x place (firstIn table doc used at (at + n))) (sym (found-none number place ea z)) ∙ both

@@ -1,13 +1,13 @@
 // The judgement of an edited document, at what the edit touches: the parent of the place, and the elements of the piece.
 //
-// The table is a proper one, and nothing is written. Assumes nothing.
-use closing::closes;
+// The parent is found by looking back, and its children one after another; the piece is judged by itself. So the cost is that of the
+// parent's tokens and of the piece, and not of the document. The table is a proper one, and nothing is written. Assumes nothing.
 use cost::looked_at;
 use judge::element_fault;
-use judge::first_fault;
 use judge::root_number;
 use keys::Fault;
 use keys::key_fault;
+use piece_faults::piece_fault;
 use places::parent_of;
 ghost use mathlib.Core.Path.{_≡_};
 ghost use mathlib.Core.Bool.{true};
@@ -18,7 +18,6 @@ ghost use Rattle.paper.specs.Tokens.{toks};
 ghost use Rattle.paper.specs.Table.{proper};
 ghost use Rattle.shape_laws.specs.Touch.{parentOf};
 ghost use Rattle.shape_laws.specs.Widths.{Comes};
-ghost use Rattle.children.specs.Closed.{Closed};
 ghost use Rattle.touched.specs.Touched.{touchedFirst};
 ghost use Rattle.touched.specs.Judged.{Elements, Found};
 
@@ -27,25 +26,24 @@ fn touched_fault(
     table: &[u64],
     doc: &[u32],
     used: usize,
-    closes: &[u32],
     at: usize,
     coming: usize,
     parent: usize,
 ) -> Fault
     requires { ⌜ proper (now table) ≡ true ⌝ }
-    requires { ⌜ Closed (now doc) used (now closes) ⌝ }
     requires { ⌜ (used ≤ length (now doc)) × (used ≤ mostTokens) × (at + coming ≤ used) ⌝ }
+    requires { ⌜ Comes (drop at (toks (take (at + coming) (now doc)))) ⌝ }
     requires { ⌜ parent ≡ parentOf (toks (take at (now doc))) ⌝ }
     ensures { λ r. ⌜ (r .number, r .place) ≡ touchedFirst (now (table .entry)) (now (doc .entry)) used at coming ⌝ }
 {
     if at <= parent {
-        return first_fault(table, doc, used, closes, at, at + coming);
+        return piece_fault(table, doc, at, coming);
     }
-    let over = element_fault(table, doc, used, closes, parent);
+    let over = element_fault(table, doc, used, &[], parent);
     if over.number != paper::DONE {
         return over;
     }
-    first_fault(table, doc, used, closes, at, at + coming)
+    piece_fault(table, doc, at, coming)
 }
 
 // What the judgement of an edited document gives: its first fault; where there is none, the number of children looked at.
@@ -70,10 +68,8 @@ pub fn judged_elements(table: &[u64], doc: &[u32], used: usize, at: usize, comin
             children: 0,
         };
     }
-    let mut ends = [0u32; paper::MOST_TOKENS];
-    closes(doc, used, &mut ends);
     let parent = parent_of(doc, at);
-    let fault = touched_fault(table, doc, used, &ends, at, coming, parent);
+    let fault = touched_fault(table, doc, used, at, coming, parent);
     if fault.number != paper::DONE {
         return Finding {
             number: fault.number,
@@ -84,7 +80,7 @@ pub fn judged_elements(table: &[u64], doc: &[u32], used: usize, at: usize, comin
     Finding {
         number: fault.number,
         place: fault.place,
-        children: looked_at(doc, used, &ends, at, coming, parent),
+        children: looked_at(doc, used, &[], at, coming, parent),
     }
 }
 

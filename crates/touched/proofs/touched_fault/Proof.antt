@@ -1,29 +1,31 @@
 -- `touched::touched_fault` meets its contract. Assumes nothing.
+use mathlib.Core.Path.{refl}
+use mathlib.Core.List.{[]}
+use Rattle.children.specs.Closed.{closed-none}
 use Rattle.touched.specs.Touched.{touched-alone, touched-parent, touched-piece}
 use borrow.Author.Needs.{needs}
 use Rattle.touched.proofs.touched_fault.Statement.{statement}
 use Rattle.touched.proofs.touched_fault.Tie as tie
 
-add-first-fault : tie.Need-add-first-fault
-add-first-fault c = search needs
-
-first-fault-requires : tie.Need-first-fault-requires
-first-fault-requires c κs = search needs
+piece-fault-requires : tie.Need-piece-fault-requires
+piece-fault-requires c κs = search needs
 
 returns : tie.Need-returns
 returns c = search touched-alone
 
+slice-aggregate-element-fault : tie.Need-slice-aggregate-element-fault
+slice-aggregate-element-fault c = search needs
+
 element-fault-requires : tie.Need-element-fault-requires
-element-fault-requires c κs = search needs
+element-fault-requires c κs =
+    let s = c .before .before .before .before in
+    (s .pre .0, (closed-none (s .args .doc .now) (s .args .used) [] refl, (s .pre .1 .0 .0, s .pre .1 .0 .1)))
 
 returns-2 : tie.Need-returns-2
 returns-2 c = search touched-parent
 
-add-first-fault-2 : tie.Need-add-first-fault-2
-add-first-fault-2 c = search needs
-
-first-fault-requires-2 : tie.Need-first-fault-requires-2
-first-fault-requires-2 c κs = search needs
+piece-fault-requires-2 : tie.Need-piece-fault-requires-2
+piece-fault-requires-2 c κs = search needs
 
 returns-3 : tie.Need-returns-3
 returns-3 c = search touched-piece
@@ -32,11 +34,10 @@ pub touched-fault-spec : {M : Type 1} → statement M
 touched-fault-spec =
     tie.close
     (tie.spec
-    add-first-fault
-    first-fault-requires
+    piece-fault-requires
     returns
+    slice-aggregate-element-fault
     element-fault-requires
     returns-2
-    add-first-fault-2
-    first-fault-requires-2
+    piece-fault-requires-2
     returns-3)
