@@ -14,8 +14,9 @@ use Rattle.paper.specs.Rules.{Rules, start, ofTable}
 use Rattle.paper.specs.Judgement.{textOrNone, content, contentGood, contentBegun, stopAfter}
 use Rattle.shape_laws.specs.Bridge.{length-toks}
 use Rattle.stops.specs.declared.Stop.{Stop}
+use Rattle.stops.specs.declared.Walk.{Walk}
 use Rattle.stops.specs.declared.Stop.the-variants.{At}
-use Rattle.stops.specs.Stop.{stopBy, is-at, contentStop, onlyTexts, textsStop, texts-stop, modelStop, goodFrom, begunFrom, model-stop}
+use Rattle.stops.specs.Stop.{stopBy, is-at, contentStop, onlyTexts, textsStop, texts-stop, modelStop, goodFrom, begunFrom, model-stop, Walked, walked-as}
 
 -- no text, and one at most
 no-texts : (k : List Tok) → onlyTexts 0 k ≡ null k
@@ -51,23 +52,24 @@ module _ (table : List ℕ) (e : ℕ) {kind : ℕ} (ek : kind ≡ cell (block ta
       begun-is : (k : List Tok) → content kind (R .begins e) k ≡ contentBegun R e k
       begun-is k = ap (λ x. content x (R .begins e) k) ek
 
-  pub content-texts : (d : List Tok) (i : ℕ) {r : Stop} → kind < 2 → r ≡ textsStop kind i d → r ≡ contentStop (ofTable table) e i d
-  content-texts d i h er = er ∙ texts-stop d kind i ∙ go kind h ∙ by-kind i d
+  pub content-texts : (d : List Tok) (i : ℕ) {w : Walk} → kind < 2 → Walked (textsStop kind i d) d w → Walked (contentStop (ofTable table) e i d) d w
+  content-texts d i h er = walked-as er (texts-stop d kind i ∙ go kind h ∙ by-kind i d)
     where
       go : (kind : ℕ) → kind < 2 → stopBy (onlyTexts kind) (onlyTexts kind) i zero d ≡ stopBy (content kind (R .describes e)) (content kind (R .begins e)) i zero d
       go zero h = ap (λ f. stopBy f f i zero d) (λ j k. no-texts k j)
       go (suc zero) h = ap (λ f. stopBy f f i zero d) (λ j k. text-or-none k j)
       go (suc (suc n)) h = absurd (omega arith)
 
-  pub content-model : (doc : List ℕ) (used i : ℕ) {b : List ℕ} {r : Stop} → 2 ≤ kind → used ≤ length doc → i ≤ used → b ≡ block table e
-      → r ≡ modelStop b used start zero i (drop i (toks (take used doc))) → r ≡ contentStop (ofTable table) e i (drop i (toks (take used doc)))
+  pub content-model : (doc : List ℕ) (used i : ℕ) {b : List ℕ} {w : Walk} → 2 ≤ kind → used ≤ length doc → i ≤ used → b ≡ block table e
+      → Walked (modelStop b used start zero i (drop i (toks (take used doc)))) (drop i (toks (take used doc))) w
+      → Walked (contentStop (ofTable table) e i (drop i (toks (take used doc)))) (drop i (toks (take used doc))) w
   content-model doc used i {b} h l u eb er =
       let d : List Tok = drop i (toks (take used doc)) in
       let z : i + length d ≡ used = omega (arith, length-drop i (toks (take used doc)), length-toks doc used l) in
-      er
-      ∙ model-stop b used d start zero i z
+      walked-as er
+      (model-stop b used d start zero i z
       ∙ ap₂ (λ good begun. stopBy good begun i zero d) (λ j k. good-is k j) (λ j k. begun-is k j)
-      ∙ by-kind i d
+      ∙ by-kind i d)
     where
       good-is : (k : List Tok) → goodFrom b start k ≡ content kind (R .describes e) k
       good-is k = rw (eb, ne-eqb kind 0 (λ z. omega arith), ne-eqb kind 1 (λ z. omega arith))

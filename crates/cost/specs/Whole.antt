@@ -1,13 +1,13 @@
 -- The children looked at: the parent's, and those of the piece's elements. Assumes nothing.
 use mathlib.Core.Path.{_≡_, sym, ap, ap₂, _∙_}
-use mathlib.Core.List.{List, _++_}
-use Prim.Native.Nat.{ℕ, zero, suc, _+_, _-_, _^_, _≤_, _<_}
+use mathlib.Core.List.{List, [], _∷_, _++_}
+use Prim.Native.Nat.{ℕ, zero, suc, _+_, _-_, _≤_, _<_}
 use native.Mathlib.Numerals.{add-one}
 use native.Mathlib.Omega.{arith}
 use lib.ListN.{length, take, drop, length-drop}
 use lib.Seq.{take-take, take-add, drop-at, length-take-le}
 use Rattle.paper.specs.declared.Tok.{Tok}
-use Rattle.paper.specs.Basics.{mostTokens}
+use Rattle.paper.specs.declared.Tok.the-variants.{Start, End, Text, Attr, Value, Bad}
 use Rattle.paper.specs.Tokens.{toks, kids, touched}
 use Rattle.paper.specs.Edits.{opens, childrenOf}
 use Rattle.shape_laws.specs.Bridge.{length-toks, toks-take}
@@ -16,7 +16,24 @@ use Rattle.shape_laws.specs.Touch.{parentOf}
 use Rattle.shape_laws.specs.Splice.{parts}
 use Rattle.shape_laws.specs.Looked.{over, touched-children, over-parent, over-none}
 use Rattle.shape_laws.specs.Widths.{Comes, own-is}
-use Rattle.cost.specs.Children.{kids-few}
+
+-- ---- the children of an element
+
+-- there are no more children than tokens
+pub kids-few : (k : ℕ) (d : List Tok) → length (kids k d) ≤ length d
+kids-few k [] = omega arith
+kids-few zero (Start n ∷ d) = omega (arith, kids-few 1 d)
+kids-few (suc k) (Start n ∷ d) = omega (arith, kids-few (suc (suc k)) d)
+kids-few zero (End ∷ d) = omega arith
+kids-few (suc k) (End ∷ d) = omega (arith, kids-few k d)
+kids-few zero (Text n ∷ d) = omega (arith, kids-few zero d)
+kids-few (suc k) (Text n ∷ d) = omega (arith, kids-few (suc k) d)
+kids-few zero (Attr n ∷ d) = omega (arith, kids-few zero d)
+kids-few (suc k) (Attr n ∷ d) = omega (arith, kids-few (suc k) d)
+kids-few zero (Value n ∷ d) = omega (arith, kids-few zero d)
+kids-few (suc k) (Value n ∷ d) = omega (arith, kids-few (suc k) d)
+kids-few zero (Bad ∷ d) = omega (arith, kids-few zero d)
+kids-few (suc k) (Bad ∷ d) = omega (arith, kids-few (suc k) d)
 
 -- ---- the document, by what stands before the piece, the piece, and what stands behind it
 
@@ -66,17 +83,6 @@ module _ (doc : List ℕ) (used at n : ℕ) (l : used ≤ length doc) (h : at + 
         = ap₂ (λ x y. length (kids zero (drop x y))) (ap suc (sym ep) ∙ sym (add-one parent)) (sym split) ∙ sym ek in
         omega (arith, looked c, z, same)
 
-  -- the sum is small
-  pub both-small : (i : ℕ) {m k : ℕ} → used ≤ mostTokens → m ≡ count opens piece - 1 → k ≡ length (kids zero (drop i d)) → k + m < 2 ^ 32
-  both-small i f em ek =
-      omega (
-        arith,
-        em,
-        ek,
-        count-few opens piece,
-        length-drop at (toks (take (at + n) doc)),
-        length-toks doc (at + n) (omega arith),
-        kids-few zero (drop i d),
-        length-drop i d,
-        length-toks doc used l,
-      )
+  -- what the piece adds is small
+  pub piece-small : count opens piece ≤ n
+  piece-small = omega (arith, count-few opens piece, length-drop at (toks (take (at + n) doc)), length-toks doc (at + n) (omega arith))

@@ -20,10 +20,10 @@ use Rattle.shape_laws.specs.Bridge.{length-toks}
 use Rattle.attributes.specs.declared.Front.{Front}
 use Rattle.attributes.specs.Attributes.{Judged}
 use Rattle.tokens.specs.Theorems.{start-iff}
-use Rattle.stops.specs.declared.Stop.{Stop}
+use Rattle.stops.specs.declared.Walk.{Walk}
 use Rattle.stops.specs.declared.Stop.the-variants.{Nowhere, At}
-use Rattle.stops.specs.Stop.{stopped, contentStop, is-nowhere, is-at}
-use Rattle.keys.specs.declared.Fault.{Fault}
+use Rattle.stops.specs.Stop.{stopped, contentStop, is-nowhere, is-at, Walked}
+use Rattle.judge.specs.declared.Seen.{Seen}
 
 -- ---- one element
 
@@ -37,24 +37,37 @@ faultFrom table e doc used i =
     let number : ℕ = numberFrom table e doc used (i + 1) in
     orElse number (placeOf (ofTable table) number i (Start e ∷ drop (i + 1) (toks (take used doc)))) none-found
 
+-- the number of its children
+abbrev pub kidsFrom : (doc : List ℕ) (used i : ℕ) → ℕ
+kidsFrom doc used i = length (kids zero (drop (i + 1) (toks (take used doc))))
+
+-- what is seen of an element tells its fault; where it has none, its n children
+pub record Told (answer : Answer) (n : ℕ) (r : Seen) : Type 0 where
+  pub fault : (r .number, r .place) ≡ answer
+  pub counted : r .number ≡ 0 → r .children ≡ n
+
+told-fault : {answer : Answer} {n : ℕ} (number place : ℕ) → (number ≡ 0 → ⊥) → (number, place) ≡ answer
+    → Told answer n (record { number = number; place = place; children = 0 })
+told-fault number place h e = record { fault = e; counted = λ z. absurd (h z) }
+
 module _ (table : List ℕ) (e : ℕ) (doc : List ℕ) (used i : ℕ) where
-  pub fault-name : getD table 0 0 ≤ e → (7, i) ≡ faultFrom table e doc used i
+  pub fault-name : getD table 0 0 ≤ e → Told (faultFrom table e doc used i) (kidsFrom doc used i) (record { number = 7; place = i; children = 0 })
   unfolding elementFault
-  fault-name h = rw (le-ltb e (getD table 0 0) h)
+  fault-name h = told-fault 7 i (λ z. omega arith) (rw (le-ltb e (getD table 0 0) h))
 
   module _ (h : e < getD table 0 0) {r : Front} (j : Judged table e doc used (i + 1) r) where
-    pub fault-attributes : not (r .good) ≡ true → (8, i) ≡ faultFrom table e doc used i
+    pub fault-attributes : not (r .good) ≡ true → Told (faultFrom table e doc used i) (kidsFrom doc used i) (record { number = 8; place = i; children = 0 })
     unfolding elementFault
-    fault-attributes b = rw (lt-ltb e (getD table 0 0) h, ← j .good-is, not-true (r .good) b)
+    fault-attributes b = told-fault 8 i (λ z. omega arith) (rw (lt-ltb e (getD table 0 0) h, ← j .good-is, not-true (r .good) b))
 
-    module _ (b : not (r .good) ≡ false) {q : Stop} (eq : q ≡ contentStop (ofTable table) e (r .after) (drop (r .after) (toks (take used doc)))) where
+    module _ (b : not (r .good) ≡ false) {w : Walk} (ew : Walked (contentStop (ofTable table) e (r .after) (drop (r .after) (toks (take used doc)))) (drop (r .after) (toks (take used doc))) w) where
       -- behind the attributes stand the children of the element
-      content-is : q ≡ contentStop (ofTable table) e (i + 1) (drop (i + 1) (toks (take used doc)))
+      content-is : w .stop ≡ contentStop (ofTable table) e (i + 1) (drop (i + 1) (toks (take used doc)))
       content-is =
           let R = ofTable table in
           let d = toks (take used doc) in
           let k = kids zero (drop (i + 1) d) in
-          eq
+          ew .stops
           ∙ ap (λ k. stopped (contentGood R e k) (r .after + childAt (stopAfter (contentBegun R e) k) zero (drop (r .after) d))) (j .same)
           ∙ ap (stopped (contentGood R e k)) (j .places (stopAfter (contentBegun R e) k))
 
@@ -62,11 +75,16 @@ module _ (table : List ℕ) (e : ℕ) (doc : List ℕ) (used i : ℕ) where
       unfolding elementFault
       by-content c ec = rw (lt-ltb e (getD table 0 0) h, ← j .good-is, not-false (r .good) b, ec)
 
-      pub fault-none : q ≡ Nowhere → (0, 0) ≡ faultFrom table e doc used i
-      fault-none n = rw (by-content true (is-nowhere _ _ (sym content-is ∙ n)))
+      pub fault-none : w .stop ≡ Nowhere → Told (faultFrom table e doc used i) (kidsFrom doc used i) (record { number = 0; place = 0; children = w .children })
+      fault-none n = record {
+        fault = rw (by-content true (is-nowhere _ _ (sym content-is ∙ n)));
+        counted = λ z. ew .counted n ∙ ap length (j .same);
+      }
 
-      pub fault-content : {place : ℕ} → q ≡ At place → (9, place) ≡ faultFrom table e doc used i
-      fault-content n = let (c, p) = is-at _ _ (sym content-is ∙ n) in rw (by-content false c) (ap (λ x. (9, x)) (p ∙ rw add-one))
+      pub fault-content : {place : ℕ} → w .stop ≡ At place → Told (faultFrom table e doc used i) (kidsFrom doc used i) (record { number = 9; place = place; children = 0 })
+      fault-content {place} n =
+          let (c, p) = is-at _ _ (sym content-is ∙ n) in
+          told-fault 9 place (λ z. omega arith) (rw (by-content false c) (ap (λ x. (9, x)) (p ∙ rw add-one)))
 
 -- the number for the element that starts at place i
 abbrev pub numberAt : (table doc : List ℕ) (used i : ℕ) → ℕ
@@ -78,32 +96,46 @@ faultOf table doc used i =
     let number : ℕ = numberAt table doc used i in
     orElse number (placeOf (ofTable table) number i (drop i (toks (take used doc)))) none-found
 
+-- the children of the element that begins d; 0 where none does
+abbrev pub kidsAt : List Tok → ℕ
+kidsAt [] = 0
+kidsAt (t ∷ d) = cond (starts t) (length (kids zero d)) 0
+
+abbrev pub kidsOf : (doc : List ℕ) (used i : ℕ) → ℕ
+kidsOf doc used i = kidsAt (drop i (toks (take used doc)))
+
 module _ (table doc : List ℕ) (used i : ℕ) (l : used ≤ length doc) where
-  pub fault-past : used ≤ i → (0, 0) ≡ faultOf table doc used i
-  fault-past h = rw (drop-of-length-le (toks (take used doc)) {i = i} (omega (arith, length-toks doc used l)))
+  abbrev of : List Tok → Answer
+  of d = let number : ℕ = faultAt (elementFault (ofTable table)) d in orElse number (placeOf (ofTable table) number i d) none-found
+
+  pub fault-past : used ≤ i → Told (faultOf table doc used i) (kidsOf doc used i) (record { number = 0; place = 0; children = 0 })
+  fault-past h =
+      let z : drop i (toks (take used doc)) ≡ [] = drop-of-length-le (toks (take used doc)) {i = i} (omega (arith, length-toks doc used l)) in
+      record { fault = sym (ap of z); counted = λ y. sym (ap kidsAt z) }
 
   module _ (h : i < used) {y : Bool} (ey : y ≡ starts (tokOf (getD doc i 0))) where
-    abbrev of : List Tok → Answer
-    of d = let number : ℕ = faultAt (elementFault (ofTable table)) d in orElse number (placeOf (ofTable table) number i d) none-found
+    next : drop i (toks (take used doc)) ≡ tokOf (getD doc i 0) ∷ drop (suc i) (toks (take used doc))
+    next = rest-next doc used i h l
 
-    next : faultOf table doc used i ≡ of (tokOf (getD doc i 0) ∷ drop (suc i) (toks (take used doc)))
-    next = ap of (rest-next doc used i h l)
+    pub fault-start : {e : ℕ} {f : Seen} → not y ≡ false → e ≡ getD doc i 0 / 8 → Told (faultFrom table e doc used i) (kidsFrom doc used i) f
+        → Told (faultOf table doc used i) (kidsOf doc used i) f
+    fault-start {e} n ee er =
+        let is : drop i (toks (take used doc)) ≡ Start e ∷ drop (suc i) (toks (take used doc))
+        = next ∙ ap (λ x. x ∷ drop (suc i) (toks (take used doc))) (start-iff (getD doc i 0) .0 (sym ey ∙ not-false y n) ∙ ap Start (sym ee)) in
+        record { fault = rw add-one at (er .fault) ∙ sym (ap of is); counted = λ z. rw add-one at (er .counted z) ∙ sym (ap kidsAt is) }
 
-    pub fault-start : {e : ℕ} {f : Fault} → not y ≡ false → e ≡ getD doc i 0 / 8 → (f .number, f .place) ≡ faultFrom table e doc used i
-        → (f .number, f .place) ≡ faultOf table doc used i
-    fault-start n ee er =
-        rw (add-one, ee) at er ∙ sym (rw (start-iff (getD doc i 0) .0 (sym ey ∙ not-false y n)) at next)
+    none : (x : Tok) → starts x ≡ false → (of (x ∷ drop (suc i) (toks (take used doc))) ≡ (0, 0)) × (kidsAt (x ∷ drop (suc i) (toks (take used doc))) ≡ 0)
+    none (Start n) s = clash refl s
+    none End s = (refl, refl)
+    none (Text n) s = (refl, refl)
+    none (Attr n) s = (refl, refl)
+    none (Value n) s = (refl, refl)
+    none Bad s = (refl, refl)
 
-    pub fault-other : not y ≡ true → (0, 0) ≡ faultOf table doc used i
-    fault-other n = sym (next ∙ none (tokOf (getD doc i 0)) (sym ey ∙ not-true y n))
-      where
-        none : (x : Tok) → starts x ≡ false → of (x ∷ drop (suc i) (toks (take used doc))) ≡ (0, 0)
-        none (Start n) s = clash refl s
-        none End s = refl
-        none (Text n) s = refl
-        none (Attr n) s = refl
-        none (Value n) s = refl
-        none Bad s = refl
+    pub fault-other : not y ≡ true → Told (faultOf table doc used i) (kidsOf doc used i) (record { number = 0; place = 0; children = 0 })
+    fault-other n =
+        let z = none (tokOf (getD doc i 0)) (sym ey ∙ not-true y n) in
+        record { fault = sym (ap of next ∙ z .0); counted = λ y. sym (ap kidsAt next ∙ z .1) }
 
 -- ---- the first fault
 
@@ -208,4 +240,4 @@ module _ (table doc : List ℕ) (used low high : ℕ) where
     -- no element starts at the place
     pub looking-other : {y : Bool} → i < high → high ≤ used → used ≤ length doc → y ≡ starts (tokOf (getD doc i 0)) → not y ≡ true
         → Looking table doc used low high (i + 1)
-    looking-other h g l ey n = looking-on h g l (fault-other table doc used i l (omega arith) ey n) refl
+    looking-other h g l ey n = looking-on h g l (fault-other table doc used i l (omega arith) ey n .fault) refl

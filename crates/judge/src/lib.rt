@@ -19,69 +19,77 @@ ghost use Rattle.paper.specs.Table.{proper};
 ghost use Rattle.paper.specs.Rules.{ofTable};
 ghost use Rattle.paper.specs.Judgement.{rootFault, judge, whole, check};
 ghost use Rattle.children.specs.Closed.{Closed};
-ghost use Rattle.judge.specs.Elements.{faultFrom, faultOf, firstIn};
+ghost use Rattle.judge.specs.Elements.{faultFrom, kidsFrom, faultOf, kidsOf, Told, firstIn};
 ghost use Rattle.judge.specs.Check.{judgedWith};
 
-// The fault of an element by its name, where its start stands at a place: 7, 8 or 9; 0 and 0 for no fault. 7 and 8 give the start's place,
-// 9 that where its content stops.
-fn fault_from(
-    table: &[u64],
-    e: u32,
-    doc: &[u32],
-    used: usize,
-    closes: &[u32],
-    start: usize,
-) -> Fault
+// What is seen of an element: its fault, number 0 for none; and, where it has none, how many children it has.
+pub struct Seen {
+    pub number: u32,
+    pub place: u32,
+    pub children: u32,
+}
+
+// An element by its name, where its start stands at a place: 7, 8 or 9; 0 and 0 for no fault. 7 and 8 give the start's place, 9 that where
+// its content stops.
+fn fault_from(table: &[u64], e: u32, doc: &[u32], used: usize, closes: &[u32], start: usize) -> Seen
     requires { ⌜ proper (now table) ≡ true ⌝ }
     requires { ⌜ Closed (now doc) used (now closes) ⌝ }
     requires { ⌜ (used ≤ length (now doc)) × (used ≤ mostTokens) × (start < used) ⌝ }
-    ensures { λ r. ⌜ (r .number, r .place) ≡ faultFrom (now (table .entry)) e (now (doc .entry)) used start ⌝ }
+    ensures { λ r. ⌜ Told (faultFrom (now (table .entry)) e (now (doc .entry)) used start) (kidsFrom (now (doc .entry)) used start) r ⌝ }
 {
     let here = start as u32;
     if e as u64 >= table[0] {
-        return Fault {
+        return Seen {
             number: paper::NAME,
             place: here,
+            children: 0,
         };
     }
     let name = e as usize;
     let front = attributes(table, name, doc, used, start + 1);
     if !front.good {
-        return Fault {
+        return Seen {
             number: paper::ATTRIBUTES,
             place: here,
+            children: 0,
         };
     }
-    match content(table, name, doc, used, closes, front.after) {
-        Stop::Nowhere => Fault {
+    let walk = content(table, name, doc, used, closes, front.after);
+    let stop = walk.stop;
+    match stop {
+        Stop::Nowhere => Seen {
             number: 0,
             place: 0,
+            children: walk.children,
         },
-        Stop::At(place) => Fault {
+        Stop::At(place) => Seen {
             number: paper::CONTENT,
             place: place as u32,
+            children: 0,
         },
     }
 }
 
-// The fault of the element that starts at place i; 0 and 0, where none does.
-pub fn element_fault(table: &[u64], doc: &[u32], used: usize, closes: &[u32], i: usize) -> Fault
+// The element that starts at place i; 0 and 0, and no child, where none does.
+pub fn element_fault(table: &[u64], doc: &[u32], used: usize, closes: &[u32], i: usize) -> Seen
     requires { ⌜ proper (now table) ≡ true ⌝ }
     requires { ⌜ Closed (now doc) used (now closes) ⌝ }
     requires { ⌜ (used ≤ length (now doc)) × (used ≤ mostTokens) ⌝ }
-    ensures { λ r. ⌜ (r .number, r .place) ≡ faultOf (now (table .entry)) (now (doc .entry)) used i ⌝ }
+    ensures { λ r. ⌜ Told (faultOf (now (table .entry)) (now (doc .entry)) used i) (kidsOf (now (doc .entry)) used i) r ⌝ }
 {
     if used <= i {
-        return Fault {
+        return Seen {
             number: 0,
             place: 0,
+            children: 0,
         };
     }
     let t = doc[i];
     if !is_start(t) {
-        return Fault {
+        return Seen {
             number: 0,
             place: 0,
+            children: 0,
         };
     }
     fault_from(table, number(t), doc, used, closes, i)
@@ -108,9 +116,12 @@ pub fn first_fault(
         if !is_start(doc[place]) {
             continue;
         }
-        let fault = element_fault(table, doc, used, closes, place);
-        if fault.number != 0 {
-            return fault;
+        let seen = element_fault(table, doc, used, closes, place);
+        if seen.number != 0 {
+            return Fault {
+                number: seen.number,
+                place: seen.place,
+            };
         }
     }
     Fault {

@@ -13,6 +13,7 @@ use Rattle.paper.specs.Tokens.{kids, childAt}
 use Rattle.paper.specs.Rules.{Rules, State, at, mayEnd, move, runFrom, ended, goesOn}
 use Rattle.paper.specs.Judgement.{noText, named, contentGood, contentBegun, stopAfter}
 use Rattle.stops.specs.declared.Stop.{Stop}
+use Rattle.stops.specs.declared.Walk.{Walk}
 use Rattle.stops.specs.declared.Stop.the-variants.{Nowhere, At}
 
 -- nowhere if all is good, else at a place
@@ -37,6 +38,19 @@ stopBy good begun i k d = stopped (good (kids k d)) (i + childAt (stopAfter begu
 -- by the rules for an element
 abbrev pub contentStop : Rules → ℕ → ℕ → List Tok → Stop
 contentStop R e i d = stopBy (contentGood R e) (contentBegun R e) i zero d
+
+-- a walk over the children that begin d: where they stop, and, if nowhere, how many there are
+pub record Walked (stop : Stop) (d : List Tok) (w : Walk) : Type 0 where
+  pub stops : w .stop ≡ stop
+  pub counted : w .stop ≡ Nowhere → w .children ≡ length (kids zero d)
+
+-- at a place
+pub walked-at : (stop : Stop) (d : List Tok) (i : ℕ) → At i ≡ stop → Walked stop d (record { stop = At i; children = 0 })
+walked-at stop d i e = record { stops = e; counted = λ z. cc }
+
+-- the same stop by another name
+pub walked-as : {stop other : Stop} {d : List Tok} {w : Walk} → Walked stop d w → stop ≡ other → Walked other d w
+walked-as c e = record { stops = c .stops ∙ e; counted = c .counted }
 
 -- ---- texts alone
 

@@ -5,10 +5,11 @@ use tokens::is_end;
 use tokens::is_start;
 use tokens::is_text;
 ghost use mathlib.Core.Path.{_≡_};
-ghost use Prim.Native.Nat.{_≤_};
+ghost use Prim.Native.Nat.{_-_, _^_, _≤_, _<_};
 ghost use lib.ListN.{length, take, drop};
 ghost use Rattle.paper.specs.Tokens.{toks};
-ghost use Rattle.stops.specs.Stop.{textsStop};
+ghost use Rattle.stops.specs.declared.Stop.the-variants.{Nowhere};
+ghost use Rattle.stops.specs.Stop.{textsStop, Walked};
 
 // Where content stops: nowhere, if it is as it must be; else at the place of a child, of a text or of the element's end.
 pub enum Stop {
@@ -16,10 +17,29 @@ pub enum Stop {
     At(usize),
 }
 
+// Where content stops; and, where it stops nowhere, how many children it has.
+pub struct Walk {
+    pub stop: Stop,
+    pub children: u32,
+}
+
+// Texts are as they must be: of so many at most, some are left.
+fn good(most: u64, left: u64) -> Walk
+    requires { ⌜ (left ≤ most) × (most < 2 ^ 32) ⌝ }
+    ensures { λ r. ⌜ r ≡ record { stop = Nowhere; children = most - left } ⌝ }
+{
+    let texts = most - left;
+    let children = texts as u32;
+    Walk {
+        stop: Stop::Nowhere,
+        children,
+    }
+}
+
 // The children that stand from a place on are to be so many texts or fewer, and nothing else.
-pub fn texts_stop(doc: &[u32], used: usize, at: usize, most: u64) -> Stop
-    requires { ⌜ (used ≤ length (now doc)) × (at ≤ used) ⌝ }
-    ensures { λ r. ⌜ r ≡ textsStop most at (drop at (toks (take used (now (doc .entry))))) ⌝ }
+pub fn texts_stop(doc: &[u32], used: usize, at: usize, most: u64) -> Walk
+    requires { ⌜ (used ≤ length (now doc)) × (at ≤ used) × (most < 2 ^ 32) ⌝ }
+    ensures { λ r. ⌜ Walked (textsStop most at (drop at (toks (take used (now (doc .entry)))))) (drop at (toks (take used (now (doc .entry))))) r ⌝ }
 {
     let mut left = most;
     let mut i = at;
@@ -28,18 +48,24 @@ pub fn texts_stop(doc: &[u32], used: usize, at: usize, most: u64) -> Stop
         let place = i;
         i += 1;
         if is_end(t) {
-            break;
+            return good(most, left);
         }
         if is_start(t) {
-            return Stop::At(place);
+            return Walk {
+                stop: Stop::At(place),
+                children: 0,
+            };
         }
         if !is_text(t) {
             continue;
         }
         if left == 0 {
-            return Stop::At(place);
+            return Walk {
+                stop: Stop::At(place),
+                children: 0,
+            };
         }
         left -= 1;
     }
-    Stop::Nowhere
+    good(most, left)
 }

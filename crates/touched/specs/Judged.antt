@@ -12,7 +12,7 @@ use Rattle.paper.specs.Edits.{childrenOf}
 use Rattle.touched.specs.declared.Finding.{Finding}
 use Rattle.keys.specs.declared.Fault.{Fault}
 use Rattle.judge.specs.Elements.{found}
-use Rattle.touched.specs.Touched.{touchedFirst}
+use Rattle.touched.specs.Touched.{touchedFirst, Looked}
 
 -- the root, then the elements that are judged: the judgement without IDs and references
 abbrev pub elementsFault : Rules → (ℕ → Bool) → List Tok → Answer
@@ -39,16 +39,11 @@ module _ (table doc : List ℕ) (used at n : ℕ) {number : ℕ} (er : (number, 
     looked = λ z. absurd (h z);
   }
 
-  module _ (z : number ≡ 0) {f : Fault} (ef : (f .number, f .place) ≡ touchedFirst table doc used at n) where
-    is : (f .number, f .place) ≡ elementsFault (ofTable table) (touched at n (toks (take used doc))) (toks (take used doc))
-    is = ef ∙ ap (λ k. before (k, 0) (touchedFirst table doc used at n)) (sym z) ∙ ap (λ a. before a (touchedFirst table doc used at n)) er
-
-    pub elements-fault : (f .number ≡ 0 → ⊥) → Elements table doc used at n (record { number = f .number; place = f .place; children = 0 })
-    elements-fault h = record { fault = is; looked = λ y. absurd (h y) }
-
-    pub elements-good : {k : ℕ} → k ≡ childrenOf (touched at n (toks (take used doc))) 0 (toks (take used doc))
-        → Elements table doc used at n (record { number = f .number; place = f .place; children = k })
-    elements-good ek = record { fault = is; looked = λ y. ek }
+  pub elements-good : number ≡ 0 → {r : Finding} → Looked table doc used at n r → Elements table doc used at n r
+  elements-good z s = record {
+    fault = s .fault ∙ ap (λ k. before (k, 0) (touchedFirst table doc used at n)) (sym z) ∙ ap (λ a. before a (touchedFirst table doc used at n)) er;
+    looked = s .looked;
+  }
 
 -- the judgement at what is touched, and, where it finds no fault, the number of children looked at
 pub record Found (table doc : List ℕ) (used at n : ℕ) (r : Finding) : Type 0 where

@@ -6,10 +6,10 @@ use Rattle.children.proofs.model_stop.Statement.{statement}
 use Rattle.children.proofs.model_stop.Tie as tie
 
 abbrev Inv-loop : tie.InvT-loop
-Inv-loop block doc used closes at run₀ i₀ run i = Running block doc used at i run
+Inv-loop block doc used closes at run₀ n₀ i₀ run n i = Running block doc used at i run n
 
 abbrev μ-loop : tie.MeasureT-loop
-μ-loop block doc used closes at run₀ i₀ run i = used - i
+μ-loop block doc used closes at run₀ n₀ i₀ run n i = used - i
 
 begin-requires : tie.Need-begin-requires Inv-loop μ-loop
 begin-requires c κs = search needs
@@ -37,6 +37,9 @@ goes-on-requires c κs = search needs
 
 returns : tie.Need-returns Inv-loop μ-loop
 returns c = search running-lost
+
+add-n : tie.Need-add-n Inv-loop μ-loop
+add-n c = search needs
 
 behind-requires : tie.Need-behind-requires Inv-loop μ-loop
 behind-requires c κs = search needs
@@ -92,6 +95,7 @@ model-stop-spec =
     step-requires
     goes-on-requires
     returns
+    add-n
     behind-requires
     loop-less
     loop-again

@@ -31,15 +31,15 @@ content-requires c κs = search needs
 enum-told : tie.Need-enum-told
 enum-told c = search needs
 
-enum-known-place : tie.Need-enum-known-place
-enum-known-place c = search needs
+enum-known-stop : tie.Need-enum-known-stop
+enum-known-stop c = search needs
 
-cast-t18 : tie.Need-cast-t18
-cast-t18 c =
+cast-t19 : tie.Need-cast-t19
+cast-t19 c =
     let k = c .before .before .before in
     let j = k .before .before .before in
     let s = j .before .before .before .before .before .before in
-    let h = stop-within _ _ (s .args .doc .now) (s .args .used) _ (s .pre .1 .1 .0) (j .attributes .ensures .within) (k .content .ensures) (c .before .place .given .1) in
+    let h = stop-within _ _ (s .args .doc .now) (s .args .used) _ (s .pre .1 .1 .0) (j .attributes .ensures .within) (k .content .ensures .stops) (c .before .stop .given .1) in
     omega (arith, h, s .pre .1 .1)
 
 returns-3 : tie.Need-returns-3
@@ -60,7 +60,7 @@ fault-from-spec =
     returns-2
     content-requires
     enum-told
-    enum-known-place
-    cast-t18
+    enum-known-stop
+    cast-t19
     returns-3
     returns-4)

@@ -26,11 +26,17 @@ add-i c = search needs
 is-end-requires : tie.Need-is-end-requires Inv-loop μ-loop
 is-end-requires c κs = search needs
 
+good-requires : tie.Need-good-requires Inv-loop μ-loop
+good-requires c κs = search needs
+
+returns : tie.Need-returns Inv-loop μ-loop
+returns c = search reading-end
+
 is-start-requires : tie.Need-is-start-requires Inv-loop μ-loop
 is-start-requires c κs = search needs
 
-returns : tie.Need-returns Inv-loop μ-loop
-returns c = search reading-start
+returns-2 : tie.Need-returns-2 Inv-loop μ-loop
+returns-2 c = search reading-start
 
 is-text-requires : tie.Need-is-text-requires Inv-loop μ-loop
 is-text-requires c κs = search needs
@@ -41,8 +47,8 @@ loop-less c = search needs
 loop-again : tie.Need-loop-again Inv-loop μ-loop
 loop-again c = search reading-other
 
-returns-2 : tie.Need-returns-2 Inv-loop μ-loop
-returns-2 c = search reading-more
+returns-3 : tie.Need-returns-3 Inv-loop μ-loop
+returns-3 c = search reading-more
 
 sub-left : tie.Need-sub-left Inv-loop μ-loop
 sub-left c = search needs
@@ -53,11 +59,11 @@ loop-less-2 c = search needs
 loop-again-2 : tie.Need-loop-again-2 Inv-loop μ-loop
 loop-again-2 c = search reading-text
 
-returns-3 : tie.Need-returns-3 Inv-loop μ-loop
-returns-3 c = search reading-out
+good-requires-2 : tie.Need-good-requires-2 Inv-loop μ-loop
+good-requires-2 c κs = search needs
 
 returns-4 : tie.Need-returns-4 Inv-loop μ-loop
-returns-4 c = search reading-end
+returns-4 c = search reading-out
 
 pub texts-stop-spec : {M : Type 1} → statement M
 texts-stop-spec =
@@ -70,14 +76,16 @@ texts-stop-spec =
     shared-slice-read-t
     add-i
     is-end-requires
-    is-start-requires
+    good-requires
     returns
+    is-start-requires
+    returns-2
     is-text-requires
     loop-less
     loop-again
-    returns-2
+    returns-3
     sub-left
     loop-less-2
     loop-again-2
-    returns-3
+    good-requires-2
     returns-4)
