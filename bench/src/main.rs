@@ -174,12 +174,13 @@ fn cases_of(mix: Mix) -> Vec<Case> {
         let step = Step::spread(mix, &table, &tokens, ROOM, edits);
         let texts = [text_of(&tokens), text_of(&step.tokens)];
         let input = Input::List(ListInput::new(table.clone(), buffer.clone(), EDIT_TOKENS as u64, step, texts));
-        cases.push(Case::new(Section::List, name, &edits.to_string(), EDIT_TOKENS, input));
+        let what = format!("{} edit{}", edits, if edits == 1 { "" } else { "s" });
+        cases.push(Case::new(Section::List, name, &what, EDIT_TOKENS, input));
     }
     let rename = Step::of_sets(&tokens, mix.rename(&tokens));
     let spread = Step::spread(mix, &table, &tokens, ROOM, LISTS[2]);
-    for (what, step) in [("rename", rename), ("small edits", spread)] {
-        let what = format!("{}: {}", what, step.there.len());
+    for (what, step) in [("rename", rename), ("script step", spread)] {
+        let what = format!("{} of {} edits", what, step.there.len());
         let input = Input::Group(GroupInput::new(table.clone(), buffer.clone(), EDIT_TOKENS as u64, step, text_of(&tokens)));
         cases.push(Case::new(Section::Group, name, &what, EDIT_TOKENS, input));
     }

@@ -87,7 +87,7 @@ pub const MOST_SINGLE_WIDE: f64 = 1.0 / 3.0;
 /// The mixes in which a parent has many children.
 const WIDE: [&str; 2] = ["2,000 IDs", "40-name choice"];
 /// The list that the limits speak of.
-const LONGEST: &str = "256";
+const LONGEST: &str = "256 edits";
 /// Most nanoseconds that a hostile text may take.
 pub const MOST_HOSTILE: f64 = 1e9;
 
@@ -157,7 +157,7 @@ impl Report<'_> {
             let lists = self.section(Section::List).filter(|row| row.what == LONGEST && WIDE.contains(&row.mix) == wide);
             let lists: Vec<_> = lists.map(|row| (row.ratio(Who::Core, Who::Single), row)).collect();
             let mixes: Vec<&str> = lists.iter().map(|(_, row)| row.mix).collect();
-            let what = format!("a list of {} edits within {} of its single calls: {}", LONGEST, words, mixes.join(", "));
+            let what = format!("a list of {} within {} of its single calls: {}", LONGEST, words, mixes.join(", "));
             limit(text, &what, most, lists.into_iter());
         }
         limit(text, "a hostile DTD text within a second (in seconds)", 1.0, hostile);
@@ -228,8 +228,8 @@ impl Report<'_> {
         text.push_str("version's list, which makes single edits one after another. \"Whole\": libxml2, the change of its tree and whole validation after each. ");
         text.push_str("\"Parent alone\": the change and `xmlValidateOneElement` of the parent and of the piece, **which misses IDs, references and the values of ");
         text.push_str("attributes**: it does not tell whether the document is valid. \"Moving\": the tokens behind the place moved and nothing else, the floor.\n\n");
-        text.push_str("| mix | edits | core, list | core, single calls | plain, bit field | libxml2, whole | libxml2, parent alone | moving | list/single | list/bit field | list/moving | whole/list | parent alone/list |\n");
-        text.push_str("|---|--:|--:|--:|--:|--:|--:|--:|--:|--:|--:|--:|--:|\n");
+        text.push_str("| mix | list of | core, list | core, single calls | plain, bit field | libxml2, whole | libxml2, parent alone | moving | list/single | list/bit field | list/moving | whole/list | parent alone/list |\n");
+        text.push_str("|---|---|--:|--:|--:|--:|--:|--:|--:|--:|--:|--:|--:|\n");
         for row in self.section(Section::List) {
             let times = [Who::Core, Who::Single, Who::Field, Who::Libxml2, Who::Parent, Who::Moving].map(|who| decimal(row.median(who), 0));
             writeln!(
@@ -257,11 +257,11 @@ impl Report<'_> {
     fn groups(&self, text: &mut String) {
         writeln!(text, "## Groups of edits at {} tokens\n", grouped(self.edit_tokens)).unwrap();
         text.push_str(
-            "Microseconds a group that is done. Rename: an ID that is referred to and all its references get another value. Small edits: ",
+            "Microseconds a group that is done. Rename: an ID that is referred to and all its references get another value. Script step: ",
         );
-        text.push_str("those of the longest list above. \"Checks\": the core's group in the core's whole checks of the same document. libxml2: the changes of ");
+        text.push_str("the longest list above. \"Checks\": the core's group in the core's whole checks of the same document. libxml2: the changes of ");
         text.push_str("its tree, and whole validation once behind them; a group that is refused, it would have to take back.\n\n");
-        text.push_str("| mix | edits | core | plain | plain, bit field | libxml2 | core/plain | core/bit field | libxml2/core | checks | within 1.5 × plain |\n");
+        text.push_str("| mix | group | core | plain | plain, bit field | libxml2 | core/plain | core/bit field | libxml2/core | checks | within 1.5 × plain |\n");
         text.push_str("|---|---|--:|--:|--:|--:|--:|--:|--:|--:|---|\n");
         for row in self.section(Section::Group) {
             writeln!(
@@ -300,7 +300,7 @@ impl Report<'_> {
         text.push_str("## Files\n\n");
         text.push_str("Microseconds a call. Load is translate, read and check, from the two files to a judged document; libxml2: ");
         text.push_str("the same schema and document as one XML text, parsed to a tree and validated, tree freed. ");
-        text.push_str("Read, write, translate and compare have no counterpart there.\n\n");
+        text.push_str("Read, write, translate, elements and compare have no counterpart there.\n\n");
         text.push_str("| call | input | core | plain | plain, bit field | libxml2 | core/plain | core/bit field | libxml2/core | within 1.5 × plain |\n");
         text.push_str("|---|---|--:|--:|--:|--:|--:|--:|--:|---|\n");
         for row in self.section(Section::File) {
