@@ -44,13 +44,7 @@ fn refused(number: u32, place: u32, used: usize, which: u32) -> Grouped
 
 // A group of whole edits, by a proper table, of a document with shape, where the second buffer is long enough. "Each edit is tested [..];
 // only the last document is judged, whole. Then it is copied back, with 0 up to the old length, or nothing in the first buffer changes."
-fn begun(
-    table: &[u64],
-    doc: &mut [u32],
-    used: usize,
-    list: &[u32],
-    second: &mut [u32],
-) -> Grouped
+fn begun(table: &[u64], doc: &mut [u32], used: usize, list: &[u32], second: &mut [u32]) -> Grouped
     requires { ⌜ (proper (now table) ≡ true) × (shapeOf (now doc) used ≡ true) × (0 ≡ faultOf (splitList (now list))) × (length (now doc) ≤ length (now second)) ⌝ }
     ensures { λ r. ⌜ outcomeOf r (now (doc .exit)) (now (second .exit)) ≡ groupBy (ofTable (now (table .entry))) (now (doc .entry)) used (now (second .entry)) (splitList (now (list .entry))) ⌝ }
 {

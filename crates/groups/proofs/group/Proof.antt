@@ -59,11 +59,11 @@ returns-4 c =
 
 begun-requires : tie.Need-begun-requires
 begun-requires c κs = (
-      is-good (c .before .before .before .before .before .before .before .before .before .proper .ensures) (c .before .before .before .before .before .before .before .before .if1 .left),
-      is-good (c .before .before .before .before .before .before .shape .ensures) (c .before .before .before .before .before .if2 .left),
-      sym (c .before .before .before .if3 .left) ∙ c .before .before .before .before .list-fault .ensures,
-      omega (arith, c .before .before .if4 .left),
-    )
+  is-good (c .before .before .before .before .before .before .before .before .before .proper .ensures) (c .before .before .before .before .before .before .before .before .if1 .left),
+  is-good (c .before .before .before .before .before .before .shape .ensures) (c .before .before .before .before .before .if2 .left),
+  sym (c .before .before .before .if3 .left) ∙ c .before .before .before .before .list-fault .ensures,
+  omega (arith, c .before .before .if4 .left),
+)
 
 same-length-4 : tie.Need-same-length-4
 same-length-4 c = search needs

@@ -37,11 +37,12 @@ write-requires c κs =
     let s = c .before .before .before .before .before .before .before .before .before .before .before .before in
     let a = s .args in
     let f = c .before .before .before .before .before .before .form-of .ensures in
-    let z = c .before .before .if1 .left in (
+    let z = c .before .before .if1 .left in
+    let room = turn-room (a .room) (a .operation) (a .place) (a .piece .now) (a .second .now) (a .used) (s .pre .0) (s .pre .1) f z in (
       omega arith,
-      turn-room (a .room) (a .operation) (a .place) (a .piece .now) (a .second .now) (a .used) (s .pre .0) (s .pre .1) f z,
+      room,
       turn-long (a .room) (a .operation) (a .place) (a .piece .now) (a .second .now) (a .used) (s .pre .0) (s .pre .1) f z,
-      omega (arith, s .pre .0, s .pre .1),
+      omega (arith, s .pre .0, s .pre .1, room),
       refl,
     )
 
