@@ -1,4 +1,4 @@
--- Ten calls, each by the outcomes that its contract allows. A promise is said of any such ten. Assumes nothing.
+-- The calls, each by the outcomes that its contract allows. A promise is said of any such calls. Assumes nothing.
 use mathlib.Core.List.{List}
 use Prim.Native.Nat.{ℕ}
 use Rattle.paper.specs.Files.{Counted}
@@ -24,7 +24,7 @@ pub record Calls : Type 1 where
   pub Names : (text buffer : List ℕ) → Counted → Type 0
   pub Spots : (text : List ℕ) → Spot → Type 0
 
--- the paper's ten
+-- the paper's
 abbrev pub papers : Calls
 papers = record {
   Reads = paper.Reads;
@@ -40,7 +40,7 @@ papers = record {
   Spots = paper.Spots;
 }
 
--- ten calls that allow no outcome but the paper's: of these every promise is proved
+-- calls that allow no outcome but the paper's: of these every promise is proved
 pub record Faithful (calls : Calls) : Type 0 where
   pub reads : (file buffer : List ℕ) (o : Counted) → calls .Reads file buffer o → paper.Reads file buffer o
   pub writes : (tokens buffer : List ℕ) (o : Counted) → calls .Writes tokens buffer o → paper.Writes tokens buffer o

@@ -44,6 +44,11 @@ module _ (calls : Calls) (is : Faithful calls) where
       let u = by-paper calls is s table t in
       grouped.group-right s (valid-iff s table u) table u buffer used v list second es x room o (is .performs-group table buffer used list second o p)
 
+  pub group-then-run : promised.GroupThenRun calls
+  group-then-run s table t buffer used v list second es x room o p c e =
+      let w : ValidDocument s (o .buffer) (o .used) = group-demand-3 s table t buffer used v list second es x room o p .valid-after in
+      (check-valid calls is s table t (o .buffer) (o .used) c e .1 w, demand-3 calls is s table t (o .buffer) (o .used) w)
+
   pub group-of-one : promised.GroupOfOne calls
   group-of-one s table t buffer used v list second q x room o p lent u e n =
       one.one-is-edit s buffer used q o lent u (group-demand-3 s table t buffer used v list second (q ∷ []) x room o p)

@@ -10,7 +10,7 @@ use Rattle.paper.specs.Schema.{Schema}
 use Rattle.paper.specs.Table.{proper}
 use Rattle.paper.specs.Shape.{shapeOf}
 use Rattle.paper.specs.Rules.{ofSchema}
-use Rattle.paper.specs.Judgement.{checking}
+use Rattle.paper.specs.Judgement.{Answer, checking}
 use Rattle.paper.specs.Validity.{ValidDocument}
 use Rattle.paper.specs.Requests.{Request}
 use Rattle.paper.specs.Back.{needs}
@@ -19,7 +19,8 @@ use Rattle.paper.specs.Lists.{fault, edits, splitList}
 use Rattle.paper.specs.Answers.{Answers, groupAnswers}
 use Rattle.paper.specs.Groups.{GroupOutcome, notBegun, after, AllInForm}
 use Rattle.promises.specs.Calls.{Calls}
-use Rattle.promises.specs.Statements.{Determinate, Translated}
+use Rattle.promises.specs.Right.{Step, EachRight}
+use Rattle.promises.specs.Statements.{Determinate, Translated, Runs}
 
 -- ---- before any edit
 
@@ -110,7 +111,7 @@ pub record SameAs (o : GroupOutcome) (u : Outcome) : Type 0 where
 -- ---- of the calls
 
 module _ (calls : Calls) where
-  open Calls calls using (Performs, PerformsGroup)
+  open Calls calls using (Checks, Performs, PerformsGroup)
 
   abbrev pub GroupDeterminate : Type 0
   GroupDeterminate = Determinate {I = List ℕ × List ℕ × ℕ × List ℕ × List ℕ} (λ i. PerformsGroup (i .0) (i .1) (i .2) (i .3) (i .4))
@@ -143,6 +144,16 @@ module _ (calls : Calls) where
       → (buffer : List ℕ) (used : ℕ) → ValidDocument s buffer used
       → (list second : List ℕ) (es : List Request) → splitList list ≡ edits es → length buffer ≤ length second
       → (o : GroupOutcome) → PerformsGroup table buffer used list second o → GroupRight s buffer used es o
+
+  -- "after a done one, demand 3's premise asks that a check [..] before the next edit or list": that check says valid, and any run of edits
+  -- from there is right
+  abbrev pub GroupThenRun : Type 0
+  GroupThenRun = (s : Schema) (table : List ℕ) → Translated calls s table
+      → (buffer : List ℕ) (used : ℕ) → ValidDocument s buffer used
+      → (list second : List ℕ) (es : List Request) → splitList list ≡ edits es → length buffer ≤ length second
+      → (o : GroupOutcome) → PerformsGroup table buffer used list second o
+      → (c : Answer) → Checks table (o .buffer) (o .used) c
+      → (c .0 ≡ 0) × ((l : List Step) → Runs calls table (o .buffer) (o .used) l → EachRight s (o .buffer) (o .used) l)
 
   -- a group of one edit is that edit, with room for its inverse
   abbrev pub GroupOfOne : Type 0
