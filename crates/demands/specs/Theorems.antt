@@ -1,4 +1,4 @@
--- The demands, of any outcomes that the contracts of the library's ten calls allow: those that a host links and runs. A line for each
+-- The demands, of any outcomes that the contracts of the library's calls allow: those that a host links and runs. A line for each
 -- promise. Assumes nothing.
 use Rattle.contracts.specs.{TakesAll, Allows}
 use Rattle.promises.specs.Calls.{Calls, Faithful}
@@ -6,17 +6,19 @@ use Rattle.promises.specs.Statements as promised
 use Rattle.promises.specs.Undo as undo
 use Rattle.promises.specs.Dtd as dtd
 use Rattle.promises.specs.Lists as lists
+use Rattle.promises.specs.Groups as groups
 use Rattle.promises.specs.Inclusion as inclusion
 use Rattle.promises.specs.Cost as cost
 use Rattle.promises.specs.Theorems as proved
 use Rattle.promises.specs.UndoTheorems as undone
 use Rattle.promises.specs.ListTheorems as listed
+use Rattle.promises.specs.GroupTheorems as grouped
 use Rattle.promises.specs.DtdTheorems as texts
-use Rattle.shrikemuff.proofs.Contracts.{shrike-read, shrike-write, shrike-translate, shrike-check, shrike-edit, shrike-list, shrike-compare}
+use Rattle.shrikemuff.proofs.Contracts.{shrike-read, shrike-write, shrike-translate, shrike-check, shrike-edit, shrike-list, shrike-group, shrike-compare}
 use Rattle.shrikemuff.proofs.Contracts.{shrike-import, shrike-names, shrike-import-spot}
 use Rattle.shrikemuff.proofs.Contracts as contracts
 
--- the library's ten calls, each by its own contract
+-- the library's calls, each by its own contract
 abbrev pub shrikes : Calls
 shrikes = record {
   Reads = λ file buffer. Allows shrike-read (file, buffer);
@@ -25,6 +27,7 @@ shrikes = record {
   Checks = λ table buffer used. Allows shrike-check (table, buffer, used);
   Performs = λ table buffer used q second. Allows shrike-edit (table, buffer, used, q, second);
   PerformsList = λ table buffer used list. Allows shrike-list (table, buffer, used, list);
+  PerformsGroup = λ table buffer used list second. Allows shrike-group (table, buffer, used, list, second);
   Compares = λ old new e buffer. Allows shrike-compare (old, new, e, buffer);
   Imports = λ text buffer. Allows shrike-import (text, buffer);
   Names = λ text buffer. Allows shrike-names (text, buffer);
@@ -39,6 +42,7 @@ faithful = record {
   checks = λ table buffer used. contracts.checks (table, buffer, used);
   performs = λ table buffer used q second. contracts.performs (table, buffer, used, q, second);
   performs-list = λ table buffer used list. contracts.performs-list (table, buffer, used, list);
+  performs-group = λ table buffer used list second. contracts.performs-group (table, buffer, used, list, second);
   compares = λ old new e buffer. contracts.compares (old, new, e, buffer);
   imports = λ text buffer. contracts.imports (text, buffer);
   names = λ text buffer. contracts.lists (text, buffer);
@@ -65,8 +69,8 @@ edit-determinate = proved.edit-determinate shrikes faithful
 -- ---- demand 1
 
 -- "Every call takes every input"
-pub take-all : TakesAll shrike-read × TakesAll shrike-write × TakesAll shrike-translate × TakesAll shrike-check × TakesAll shrike-edit × TakesAll shrike-list × TakesAll shrike-compare × TakesAll shrike-import × TakesAll shrike-names × TakesAll shrike-import-spot
-take-all = (contracts.read-takes-all, contracts.write-takes-all, contracts.translate-takes-all, contracts.check-takes-all, contracts.edit-takes-all, contracts.list-takes-all, contracts.compare-takes-all, contracts.import-takes-all, contracts.names-takes-all, contracts.spot-takes-all)
+pub take-all : TakesAll shrike-read × TakesAll shrike-write × TakesAll shrike-translate × TakesAll shrike-check × TakesAll shrike-edit × TakesAll shrike-list × TakesAll shrike-group × TakesAll shrike-compare × TakesAll shrike-import × TakesAll shrike-names × TakesAll shrike-import-spot
+take-all = (contracts.read-takes-all, contracts.write-takes-all, contracts.translate-takes-all, contracts.check-takes-all, contracts.edit-takes-all, contracts.list-takes-all, contracts.group-takes-all, contracts.compare-takes-all, contracts.import-takes-all, contracts.names-takes-all, contracts.spot-takes-all)
 
 pub read-answers : promised.ReadAnswers shrikes
 read-answers = proved.read-answers shrikes faithful
@@ -242,6 +246,35 @@ list-stands = listed.list-stands shrikes faithful
 
 pub list-right : lists.ListRight shrikes
 list-right = listed.list-right shrikes faithful
+
+-- ---- item 9
+
+pub group-determinate : groups.GroupDeterminate shrikes
+group-determinate = grouped.group-determinate shrikes faithful
+
+pub group-answers : groups.GroupAnswers shrikes
+group-answers = grouped.group-answers shrikes faithful
+
+pub group-order : groups.GroupOrder shrikes
+group-order = grouped.group-order shrikes faithful
+
+pub group-keeps : groups.GroupKeeps shrikes
+group-keeps = grouped.group-keeps shrikes faithful
+
+pub group-second : groups.GroupSecond shrikes
+group-second = grouped.group-second shrikes faithful
+
+pub group-lengths : groups.GroupLengths shrikes
+group-lengths = grouped.group-lengths shrikes faithful
+
+pub group-demand-3 : groups.GroupDemand3 shrikes
+group-demand-3 = grouped.group-demand-3 shrikes faithful
+
+pub group-then-run : groups.GroupThenRun shrikes
+group-then-run = grouped.group-then-run shrikes faithful
+
+pub group-of-one : groups.GroupOfOne shrikes
+group-of-one = grouped.group-of-one shrikes faithful
 
 -- ---- item 10
 

@@ -1,4 +1,4 @@
--- The contracts of the ten calls, as they stand. Each asks nothing of a caller, and allows no outcome but the paper's. Assumes nothing.
+-- The contracts of the calls, as they stand. Each asks nothing of a caller, and allows no outcome but the paper's. Assumes nothing.
 use mathlib.Core.List.{List}
 use Prim.Native.Nat.{ℕ}
 use denote.Ref.{now}
@@ -6,13 +6,14 @@ use Rattle.paper.specs.Files.{Counted}
 use Rattle.paper.specs.Judgement.{Answer}
 use Rattle.paper.specs.Edits.{Request, Outcome}
 use Rattle.paper.specs.Lists.{Listed}
+use Rattle.paper.specs.Groups.{GroupOutcome}
 use Rattle.paper.specs.Inclusion.{Compared}
 use Rattle.paper.specs.Dtd.Imported.{Spot}
-use Rattle.paper.specs.Calls.{Reads, Writes, Translates, Checks, Performs, PerformsList, Compares, Imports, Names, Spots}
+use Rattle.paper.specs.Calls.{Reads, Writes, Translates, Checks, Performs, PerformsList, PerformsGroup, Compares, Imports, Names, Spots}
 use Rattle.contracts.specs.{Call, TakesAll, Allows, allowed}
 use Rattle.docfile.specs.Outcome.{outcome as counted}
 use Rattle.compare.specs.Outcome.{outcomeOf as compared}
-use Rattle.shrikemuff.specs.Outcomes.{edited, listed, spotted}
+use Rattle.shrikemuff.specs.Outcomes.{edited, listed, grouped, spotted}
 use Rattle.shrikemuff.proofs.shrike_read.Kinds as read-kinds
 use Rattle.shrikemuff.proofs.shrike_read.Reads as read
 use Rattle.shrikemuff.proofs.shrike_write.Kinds as write-kinds
@@ -25,6 +26,8 @@ use Rattle.shrikemuff.proofs.shrike_edit.Kinds as edit-kinds
 use Rattle.shrikemuff.proofs.shrike_edit.Reads as edit
 use Rattle.shrikemuff.proofs.shrike_list.Kinds as list-kinds
 use Rattle.shrikemuff.proofs.shrike_list.Reads as list
+use Rattle.shrikemuff.proofs.shrike_group.Kinds as group-kinds
+use Rattle.shrikemuff.proofs.shrike_group.Reads as group
 use Rattle.shrikemuff.proofs.shrike_compare.Kinds as compare-kinds
 use Rattle.shrikemuff.proofs.shrike_compare.Reads as compare
 use Rattle.shrikemuff.proofs.shrike_import.Kinds as import-kinds
@@ -153,6 +156,25 @@ list-takes-all κs given = tt
 
 pub performs-list : (i : List ℕ × List ℕ × ℕ × List ℕ) (o : Listed Outcome) → Allows shrike-list i o → PerformsList (i .0) (i .1) (i .2) (i .3) o
 performs-list = allowed shrike-list (λ i o. PerformsList (i .0) (i .1) (i .2) (i .3) o) (λ κs given result after told. told)
+
+-- ---- the group of edits: table, buffer, used length, list and second buffer
+
+abbrev pub shrike-group : Call (List ℕ × List ℕ × ℕ × List ℕ × List ℕ) GroupOutcome
+shrike-group = record {
+  lifetimes = 4;
+  ps = group-kinds.ps;
+  r = group-kinds.r;
+  Asked = group.Asked;
+  Learnt = group.Learnt;
+  input = λ κs given. (now (given .0), now (given .1 .0), given .1 .1 .0, now (given .1 .1 .1 .0), now (given .1 .1 .1 .1 .0));
+  outcome = λ κs result after. grouped result (now (after .1 .0)) (now (after .1 .1 .1 .1 .0));
+}
+
+pub group-takes-all : TakesAll shrike-group
+group-takes-all κs given = tt
+
+pub performs-group : (i : List ℕ × List ℕ × ℕ × List ℕ × List ℕ) (o : GroupOutcome) → Allows shrike-group i o → PerformsGroup (i .0) (i .1) (i .2) (i .3) (i .4) o
+performs-group = allowed shrike-group (λ i o. PerformsGroup (i .0) (i .1) (i .2) (i .3) (i .4) o) (λ κs given result after told. told)
 
 -- ---- the comparison: old table, new table, element and sequence buffer
 

@@ -1,2 +1,2 @@
--- Contracts says what the nine contracts allow.
+-- Contracts says what the contracts allow.
 pub mod Contracts

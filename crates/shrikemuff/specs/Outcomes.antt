@@ -3,9 +3,11 @@ use mathlib.Core.List.{List, []}
 use Prim.Native.Nat.{ℕ}
 use Rattle.paper.specs.Edits.{Outcome}
 use Rattle.paper.specs.Lists as paper
+use Rattle.paper.specs.Groups.{GroupOutcome}
 use Rattle.paper.specs.Dtd.Imported as dtd
 use Rattle.shrikemuff.specs.declared.Answer.{Answer}
 use Rattle.shrikemuff.specs.declared.Listed.{Listed}
+use Rattle.shrikemuff.specs.declared.Grouped.{Grouped}
 use Rattle.shrikemuff.specs.declared.Spot.{Spot}
 
 abbrev pub edited : Answer → (buffer second : List ℕ) → Outcome
@@ -14,6 +16,10 @@ edited r buffer second =
 
 abbrev pub listed : Listed → (buffer : List ℕ) → paper.Listed Outcome
 listed r buffer = record { last = edited (r .last) buffer []; done = r .done }
+
+abbrev pub grouped : Grouped → (buffer second : List ℕ) → GroupOutcome
+grouped r buffer second =
+    record { number = r .number; place = r .place; used = r .used; change = r .change; which = r .which; buffer = buffer; second = second }
 
 abbrev pub spotted : Spot → dtd.Spot
 spotted r = record { number = r .number; offset = r .offset }

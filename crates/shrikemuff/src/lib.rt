@@ -1,4 +1,4 @@
-// The host library: the ten calls under the names and types of C. `include/shrikemuff.h` describes them to a host.
+// The host library: the calls under the names and types of C. `include/shrikemuff.h` describes them to a host.
 //
 // A slice is a pointer and a length, a struct is C's struct. No call asks anything of its arguments, allocates or keeps state; the
 // contract of each fixes the whole outcome: the answer and every place of lent memory. `proofs/Contracts.antt` holds them to the
@@ -8,10 +8,10 @@ pub mod version;
 
 use compare::Compared;
 use docfile::Count;
-ghost use Rattle.paper.specs.Calls.{Reads, Writes, Translates, Checks, Performs, PerformsList, Compares, Imports, Names, Spots};
+ghost use Rattle.paper.specs.Calls.{Reads, Writes, Translates, Checks, Performs, PerformsList, PerformsGroup, Compares, Imports, Names, Spots};
 ghost use Rattle.docfile.specs.Outcome.{outcome as counted};
 ghost use Rattle.compare.specs.Outcome.{outcomeOf as compared};
-ghost use Rattle.shrikemuff.specs.Outcomes.{edited, listed, spotted};
+ghost use Rattle.shrikemuff.specs.Outcomes.{edited, listed, grouped, spotted};
 
 // "The check answers number and place"
 #[repr(C)]
@@ -36,6 +36,16 @@ pub struct Answer {
 pub struct Listed {
     pub last: Answer,
     pub done: u32,
+}
+
+// Item 9: number and place, the whole group's used length and change, and "which edit it was, from 1 (else 0)".
+#[repr(C)]
+pub struct Grouped {
+    pub number: u32,
+    pub place: u32,
+    pub used: u64,
+    pub change: i32,
+    pub which: u32,
 }
 
 // Items 4 and 13: the byte offset in a text of what is at fault.
@@ -129,6 +139,27 @@ pub extern "C" fn shrike_list(table: &[u64], doc: &mut [u32], used: u64, list: &
             children: last.children,
         },
         done: made.done,
+    }
+}
+
+// Makes the edits of a list on the second buffer, judges the last document whole, and copies it back if it is valid. No inverse is written.
+#[no_mangle]
+pub extern "C" fn shrike_group(
+    table: &[u64],
+    doc: &mut [u32],
+    used: u64,
+    list: &[u32],
+    second: &mut [u32],
+) -> Grouped
+    ensures { λ r. ⌜ PerformsGroup (now (table .entry)) (now (doc .entry)) used (now (list .entry)) (now (second .entry)) (grouped r (now (doc .exit)) (now (second .exit))) ⌝ }
+{
+    let made = groups::group(table, doc, used as usize, list, second);
+    Grouped {
+        number: made.number,
+        place: made.place,
+        used: made.used as u64,
+        change: made.change,
+        which: made.which,
     }
 }
 
