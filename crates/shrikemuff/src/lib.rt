@@ -128,8 +128,8 @@ pub extern "C" fn shrike_edit(
 pub extern "C" fn shrike_list(table: &[u64], doc: &mut [u32], used: u64, list: &[u32]) -> Listed
     ensures { λ r. ⌜ PerformsList (now (table .entry)) (now (doc .entry)) used (now (list .entry)) (listed r (now (doc .exit))) ⌝ }
 {
-    let made = lists::list(table, doc, used as usize, list);
-    let last = made.last;
+    let came = lists::list(table, doc, used as usize, list);
+    let last = came.last;
     Listed {
         last: Answer {
             number: last.number,
@@ -138,7 +138,7 @@ pub extern "C" fn shrike_list(table: &[u64], doc: &mut [u32], used: u64, list: &
             change: last.change,
             children: last.children,
         },
-        done: made.done,
+        done: came.done,
     }
 }
 
@@ -153,13 +153,13 @@ pub extern "C" fn shrike_group(
 ) -> Grouped
     ensures { λ r. ⌜ PerformsGroup (now (table .entry)) (now (doc .entry)) used (now (list .entry)) (now (second .entry)) (grouped r (now (doc .exit)) (now (second .exit))) ⌝ }
 {
-    let made = groups::group(table, doc, used as usize, list, second);
+    let came = groups::group(table, doc, used as usize, list, second);
     Grouped {
-        number: made.number,
-        place: made.place,
-        used: made.used as u64,
-        change: made.change,
-        which: made.which,
+        number: came.number,
+        place: came.place,
+        used: came.used as u64,
+        change: came.change,
+        which: came.which,
     }
 }
 
