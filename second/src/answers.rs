@@ -3,7 +3,8 @@
 //! `schema BYTES` and `table WORDS` choose the table and are answered by nothing. `check USED | DOCUMENT | COUNTS` is answered by number and
 //! place, `edit USED OPERATION PLACE | DOCUMENT | PIECE | BACK | COUNTS` by the numbers of the answer and both buffers after it,
 //! `list USED | DOCUMENT | LIST | COUNTS` by the numbers of the last answer, the edits done and the buffer after it; the counts after it
-//! stand last, `|` before each. `elements NAME | COUNTS` is answered by number and count.
+//! stand last, `|` before each. `elements NAME | COUNTS` is answered by number and count, `group USED | DOCUMENT | LIST | SECOND` by the
+//! numbers of the answer and both buffers after it.
 
 use second::case::{Case, Memory, Outcome, Said, Table};
 use second::paper::edits::{Answer, Edit};
@@ -43,6 +44,11 @@ pub fn answers() -> Result<()> {
                 let case = Case::List { table: Rc::clone(&table), doc, used, list, counts };
                 writeln!(out, "{}", in_numbers(&case.outcome()))?;
             }
+            ("group", [used, doc, numbers, second]) => {
+                let (doc, used, list, second) = (list(doc)?, one(list(used)?)?, list(numbers)?, list(second)?);
+                let case = Case::Group { table: Rc::clone(&table), doc, used, list, second };
+                writeln!(out, "{}", in_numbers(&case.outcome()))?;
+            }
             ("elements", [name, counts]) => {
                 let case = Case::Elements { table: Rc::clone(&table), counts: tally(counts)?, name: one(list(name)?)? as u32 };
                 writeln!(out, "{}", in_numbers(&case.outcome()))?;
@@ -66,6 +72,10 @@ fn in_numbers(outcome: &Outcome) -> String {
         }
         (Said::Listed(said), [Memory::Tokens(doc), Memory::Counts(counts)]) => {
             format!("{} {} | {} | {}", of_answer(&said.last), said.done, spaced(doc), spaced(counts))
+        }
+        (Said::Grouped(said), [Memory::Tokens(doc), Memory::Tokens(second)]) => {
+            let head = format!("{} {} {} {} {}", said.number, said.place, said.used, said.change, said.which);
+            format!("{head} | {} | {}", spaced(doc), spaced(second))
         }
         _ => unreachable!("no other call is asked"),
     }

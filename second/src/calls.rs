@@ -4,6 +4,7 @@ use crate::memory::{bytes_of, Lender, Side};
 use second::case::{Case, Memory, Outcome, Said};
 use second::paper::dtd::Spot;
 use second::paper::edits::Answer;
+use second::paper::groups::Grouped;
 use second::paper::judgement::Verdict;
 use second::paper::lists::Listed;
 use second::paper::program::Files;
@@ -58,6 +59,9 @@ fn memory_of(case: &Case) -> Vec<Lent<'_>> {
             vec![lent("table", &table.words), written("document", doc, 0), lent("list", list), written("counts", counts, 1)]
         }
         Case::Elements { table, counts, .. } => vec![lent("table", &table.words), lent("counts", counts)],
+        Case::Group { table, doc, list, second, .. } => {
+            vec![lent("table", &table.words), written("document", doc, 0), lent("list", list), written("second buffer", second, 1)]
+        }
         Case::Compare { old, new, buffer, .. } => {
             vec![lent("old table", &old.words), lent("new table", &new.words), written("sequence", buffer, 0)]
         }
@@ -192,6 +196,21 @@ impl Caller {
                     let said = library::shrike_elements(at[0] as *const u64, table.words.len(), at[1] as *const i32, *name);
                     Said::Count { number: said.number, count: said.count }
                 }
+                Case::Group { table, doc, used, list, second } => {
+                    let said = library::shrike_group(
+                        at[0] as *const u64,
+                        table.words.len(),
+                        at[1] as *mut u32,
+                        doc.len(),
+                        *used,
+                        at[2] as *const u32,
+                        list.len(),
+                        at[3] as *mut u32,
+                        second.len(),
+                    );
+                    let library::Grouped { number, place, used, change, which } = said;
+                    Said::Grouped(Grouped { number, place, used, change, which })
+                }
                 Case::Compare { old, new, element, buffer } => {
                     let said = library::shrike_compare(
                         at[0] as *const u64,
@@ -242,6 +261,9 @@ pub fn in_words(said: &Said) -> String {
         Said::Verdict(verdict) => format!("number {}, place {}", verdict.number, verdict.place),
         Said::Answer(answer) => answer_in_words(answer),
         Said::Listed(listed) => format!("{}, done {}", answer_in_words(&listed.last), listed.done),
+        Said::Grouped(Grouped { number, place, used, change, which }) => {
+            format!("number {number}, place {place}, used {used}, change {change}, which {which}")
+        }
         Said::Compared { number, takes_all, length } => format!("number {number}, takes all {takes_all}, length {length}"),
         Said::Printed(text) => format!("{:?}", String::from_utf8_lossy(text)),
     }

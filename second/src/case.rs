@@ -3,6 +3,7 @@
 use crate::paper::dtd::{self, Spot};
 use crate::paper::edits::{self, Answer, Edit};
 use crate::paper::grammar::Grammar;
+use crate::paper::groups::{self, Grouped};
 use crate::paper::judgement::{self, Verdict};
 use crate::paper::lists::{self, Listed};
 use crate::paper::program::{self, Files};
@@ -33,8 +34,9 @@ impl Table {
     }
 }
 
-/// A call and its inputs; `Imported` is two: what is imported, if it is, is translated. A `buffer`, of an edit and of a list the document, of
-/// an edit the buffer for what takes it `back`, and of these and a check the counts are lent for writing; all else only for reading. An edit that
+/// A call and its inputs; `Imported` is two: what is imported, if it is, is translated. A `buffer`, of an edit, a list and a group the
+/// document, of an edit the buffer for what takes it `back`, of a group the `second` one, and of a check, an edit and a list the counts are lent
+/// for writing; all else only for reading. An edit that
 /// steps back must `give` these tokens.
 #[derive(Clone, Debug)]
 pub enum Case {
@@ -49,6 +51,7 @@ pub enum Case {
     Edit { table: Rc<Table>, doc: Vec<u32>, used: u64, edit: Edit, back: Vec<u32>, counts: Tally, give: Option<Vec<u32>> },
     List { table: Rc<Table>, doc: Vec<u32>, used: u64, list: Vec<u32>, counts: Tally },
     Elements { table: Rc<Table>, counts: Tally, name: u32 },
+    Group { table: Rc<Table>, doc: Vec<u32>, used: u64, list: Vec<u32>, second: Vec<u32> },
     Compare { old: Rc<Table>, new: Rc<Table>, element: u32, buffer: Vec<u32> },
     Program(Files),
 }
@@ -62,6 +65,7 @@ pub enum Said {
     Verdict(Verdict),
     Answer(Answer),
     Listed(Listed),
+    Grouped(Grouped),
     Compared { number: u32, takes_all: u32, length: u32 },
     Printed(Vec<u8>),
 }
@@ -153,6 +157,15 @@ impl Case {
                 let (number, count) = tally::elements(table.grammar.as_ref(), counts, *name);
                 let counted = edges::of_question(table, *name, number);
                 Outcome { said: Said::Count { number, count }, after: vec![], counted }
+            }
+            Case::Group { table, doc, used, list, second } => {
+                let worked = groups::group(table.grammar.as_ref(), doc, *used, list, second);
+                let counted = edges::of_group(list, doc, second, &worked);
+                Outcome {
+                    said: Said::Grouped(worked.grouped),
+                    after: vec![Memory::Tokens(worked.doc), Memory::Tokens(worked.second)],
+                    counted,
+                }
             }
             Case::Compare { old, new, element, buffer } => {
                 match compare::compare(old.grammar.as_ref(), new.grammar.as_ref(), *element, buffer.len()) {

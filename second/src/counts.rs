@@ -9,7 +9,7 @@ const ANSWERS: usize = 17;
 
 /// The answers that each kind of call can give. Those of an edit are asked for by operation, and more often than rarely by how its second
 /// buffer (`back`) fits by where its counts go and by what a set finds; those of a list by how many edits it has, which is refused, and by its own faults.
-const CALLS: [(&str, &[usize]); 69] = [
+const CALLS: [(&str, &[usize]); 80] = [
     ("read", &[0, 1, 5]),
     ("write", &[0, 4, 5]),
     ("translate", &[0, 1, 2, 3, 13]),
@@ -49,7 +49,7 @@ const CALLS: [(&str, &[usize]); 69] = [
     ("elements, 48 on", &[0, 15]),
     ("list", &[0, 4, 5, 6, 7, 8, 9, 10, 11, 12, 13, 15]),
     ("list of one", &[0, 4, 5, 6, 8, 9, 12, 13]),
-    ("list of 256", &[0, 4, 6]),
+    ("list of 256", &[0, 4]),
     ("list, first refused", &[4, 5, 6, 8, 9, 10, 12, 13]),
     ("list, later refused", &[4, 5, 6, 8, 9, 10, 12, 15]),
     ("list, long piece", &[4]),
@@ -58,6 +58,17 @@ const CALLS: [(&str, &[usize]); 69] = [
     ("list ends in a piece", &[4]),
     ("list of 257", &[5]),
     ("list of 256, rest", &[5]),
+    ("group", &[0, 4, 5, 6, 8, 9, 10, 11, 12, 13]),
+    ("group, the list", &[4, 5]),
+    ("group, second short", &[4, 5, 13]),
+    ("group, first edit", &[4, 5, 6]),
+    ("group, later edit", &[4, 5, 6]),
+    ("group, the end", &[0, 8, 9, 10, 11, 12]),
+    ("group, as long", &[0, 4, 5, 6, 8, 9, 12]),
+    ("group of 256", &[0]),
+    ("group, longer within", &[0]),
+    ("group shortens", &[0]),
+    ("group, not shorter", &[0]),
     ("fixed, none", &[0]),
     ("fixed, one", &[0]),
     ("fixed, 16", &[0]),

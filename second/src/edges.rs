@@ -1,9 +1,10 @@
-//! The edges of an edit's second buffer, of its counts and of a list's form, to be counted: each must occur.
+//! The edges of an edit's second buffer, of its counts, of a list's form and of a group, to be counted: each must occur.
 
 use crate::case::Table;
 use crate::paper::answer;
 use crate::paper::edits::{Edit, Looked, LONGEST_BACK, SET};
 use crate::paper::grammar::Grammar;
+use crate::paper::groups::{Grouped, Worked};
 use crate::paper::lists::{self, Listed, MOST_EDITS};
 use crate::paper::tally::{self, Tally};
 use crate::paper::MOST_TOKENS;
@@ -108,6 +109,41 @@ pub fn of_list(list: &[u32], listed: &Listed) -> Vec<(&'static str, u32)> {
         if refused.piece.len() > MOST_TOKENS {
             edges.push(("list, long piece", number));
         }
+    }
+    edges
+}
+
+/// A group's answer by what gave it: before any edit, an edit, the last document. What it leaves in the second buffer, and how long that is.
+pub fn of_group(list: &[u32], doc: &[u32], second: &[u32], worked: &Worked) -> Vec<(&'static str, u32)> {
+    let Grouped { number, which, change, .. } = worked.grouped;
+    let mut edges = vec![("group", number)];
+    let edits = match lists::edits_of(list) {
+        Ok(edits) => edits,
+        Err(fault) if fault == number && worked.second == second => return vec![("group", number), ("group, the list", number)],
+        Err(_) => return edges,
+    };
+    if second.len() < doc.len() {
+        edges.push(("group, second short", number));
+        return edges;
+    }
+    match which {
+        0 if number == answer::TABLE || (number == answer::SHAPE && worked.second == second) => return edges,
+        0 => edges.push(("group, the end", number)),
+        1 => edges.push(("group, first edit", number)),
+        _ => edges.push(("group, later edit", number)),
+    }
+    if second.len() == doc.len() {
+        edges.push(("group, as long", number));
+    }
+    if edits.len() == MOST_EDITS {
+        edges.push(("group of 256", number));
+    }
+    if number == answer::DONE {
+        let length = worked.grouped.used as usize;
+        if worked.longest > length.max((length as i64 - i64::from(change)) as usize) {
+            edges.push(("group, longer within", number));
+        }
+        edges.push((if change < 0 { "group shortens" } else { "group, not shorter" }, number));
     }
     edges
 }

@@ -68,6 +68,13 @@ pub fn save(folder: &Path, case: &Case, sides: u8) -> Result<()> {
             write_numbers(folder, "counts.txt", counts)?;
             small += &format!("name {name}\n");
         }
+        Case::Group { table, doc, used, list, second } => {
+            save_table(folder, table)?;
+            write_numbers(folder, "doc.txt", doc)?;
+            write_numbers(folder, "list.txt", list)?;
+            write_numbers(folder, "second.txt", second)?;
+            small += &format!("used {used}\n");
+        }
         Case::Compare { old, new, element, buffer } => {
             for (name, table) in [("old", old), ("new", new)] {
                 fs::create_dir_all(folder.join(name))?;
@@ -139,6 +146,13 @@ pub fn load(folder: &Path) -> Result<(Case, u8)> {
             counts: counts(folder)?,
         },
         "elements" => Case::Elements { table: load_table(folder)?, counts: counts(folder)?, name: number(&small, "name")? },
+        "group" => Case::Group {
+            table: load_table(folder)?,
+            doc: numbers(folder, "doc.txt")?,
+            used: number(&small, "used")?,
+            list: numbers(folder, "list.txt")?,
+            second: numbers(folder, "second.txt")?,
+        },
         "compare" => Case::Compare {
             old: load_table(&folder.join("old"))?,
             new: load_table(&folder.join("new"))?,

@@ -17,6 +17,7 @@ impl Case {
             Case::Edit { .. } => "edit",
             Case::List { .. } => "list",
             Case::Elements { .. } => "elements",
+            Case::Group { .. } => "group",
             Case::Compare { .. } => "compare",
             Case::Program(_) => "program",
         }
@@ -58,6 +59,16 @@ impl Case {
                 short(list)
             ),
             Case::Elements { table, counts, name } => format!("elements of name {name}: {}, counts {counts:?}", table_in_words(table)),
+            Case::Group { table, doc, used, list, second } => format!(
+                "group of {} numbers, {} whole edits: {}, buffers of {} and {}, used {used}\n  document {}\n  list {}",
+                list.len(),
+                lists::front(list).0.len(),
+                table_in_words(table),
+                doc.len(),
+                second.len(),
+                short(doc),
+                short(list)
+            ),
             Case::Compare { old, new, element, buffer } => {
                 format!("compare element {element}: old {}, new {}, room for {}", table_in_words(old), table_in_words(new), buffer.len())
             }

@@ -6,7 +6,7 @@ give the answers, writes them as equations over the definitions, and has
 `rt check` compute these. With --share N one in N of the fixed cases is taken,
 others with each seed: N seeds in a row take them all.
 
-With --second PROGRAM its checks, edits and lists are compared with the answers of the
+With --second PROGRAM its checks, edits, lists, groups and questions are compared with the answers of the
 program in second/ instead, and no equations are written.
 
 Exit status: 0 all equal; 1 some differ, or an answer that can occur did not;
@@ -81,6 +81,8 @@ REQUIRED = {
     '(counts)': {'true', 'at -1', 'at 8193', 'at %d' % -2 ** 31, 'at %d' % (2 ** 31 - 1)},
     'list': ALL,
     'elements': {0, 13, 15},
+    'group': ALL - {7, 15},
+    '(group)': {'list 4', 'list 5', 'second short', 'edit 4', 'edit 5', 'edit 6', 'later edit', 'renamed', 'longer within'},
     '(list)': {'empty', 'ends inside', '257th begun', 'of 256', 'first refused', 'later refused'},
     'printed': {'lines', 'check not 0', 'stop 1', 'stop 2', 'stop 3', 'stop 5'},
 }
@@ -1024,6 +1026,33 @@ def list_case(context, buffer, used, numbers, counts=None):
     return Case([], told(call='list', buffer=buffer, used=used, numbers=numbers, counts=counts, expected=answer), rows, lines)
 
 
+def group_case(context, buffer, used, numbers, second):
+    answer = ref.group_edit(context.table, buffer, used, numbers, second)
+    if context.file is not None:
+        agree('group', answer, ref.group_by_schema(context.schema, buffer, used, numbers, second))
+    number, _, length, _, which, after, worked = answer
+    rows = [('group', number)]
+    try:
+        edits = ref.edits_of(numbers)
+        if len(second) < len(buffer):
+            rows.append(('(group)', 'second short'))
+        elif which:
+            rows.append(('(group)', 'edit %d' % number))
+            if which > 1:
+                rows.append(('(group)', 'later edit'))
+        elif number == 0:
+            true = true_counts(context, buffer, used)
+            if all(ref.edit_by_schema(context.rules, buffer, used, *one, [0] * ref.BACK, true)[0] == 12 for one in edits):
+                rows.append(('(group)', 'renamed'))
+            if worked[length:length + 1] == [0] and length >= used and second[length] != 0:
+                rows.append(('(group)', 'longer within'))
+    except ref.Refused as refused:
+        rows.append(('(group)', 'list %d' % refused.number))
+    lines = ('group %d | %s | %s | %s' % (used, plain(buffer), plain(numbers), plain(second)),
+             '%s | %s | %s' % (plain(answer[:5]), plain(after), plain(worked)))
+    return Case([], told(call='group', buffer=buffer, used=used, numbers=numbers, second=second, expected=answer), rows, lines)
+
+
 def elements_case(context, counts, name):
     number, count = ref.elements(context.table, counts, name)
     lines = 'elements %d | %s' % (name, plain(counts)), '%d %d' % (number, count)
@@ -1488,6 +1517,60 @@ class Cases:
             agree('stepping back', number, 0)
         agree('a run stepped back', buffer[:used], first)
 
+    def grouping(self, wanted=None, row=None):
+        """An ID renamed with its references, or edits that are in form; or a
+        group with a fault of its own."""
+        r = self.r
+        contexts = self.improper() if wanted == 13 else self.translated() + self.own()
+        for _ in range(40000):
+            context, guide = self.candidates(contexts)
+            tokens = ref.lay(self.tree(guide, wanted, self.make.chance(0.7)))
+            if len(tokens) > 200:
+                continue
+            buffer, used = self.make.buffer(tokens)
+            edits = self.renaming(guide, tokens) if self.make.chance(0.4) else []
+            after = tokens
+            for _ in range(0 if edits else r.choice([1, 1, 2, 3])):
+                root = ref.tree_of(after)
+                if root is None:
+                    break
+                asked = self.make.edit(guide, root, r.choice([1, 1, 2, 3, 3, 4, 4, 5, 0]), 0.1)
+                edits.append(asked)
+                try:
+                    after = ref.stepped(after, len(buffer), *asked)
+                except ref.Refused:
+                    break
+            if row and row[1] == 'longer within' and edits:
+                edits = [(1, len(tokens) - 1, [3]), (2, len(tokens) - 1, [])] + edits
+            numbers = ref.list_numbers(edits)
+            if self.make.chance(0.1) or row and row[1].startswith('list'):
+                numbers = r.choice([numbers[:-1], numbers + [1], [], numbers + ref.list_numbers([(2, 1, [])] * ref.EDITS)])
+            more = r.choice([0, 0, 1, 3, 9, -1] if not row or 'second' not in row[1] else [-1, -2])
+            second = [r.choice([1, 98, 2 ** 32 - 1]) for _ in range(max(0, len(buffer) + more))]
+            case = group_case(context, buffer, used, numbers, second)
+            if (wanted is None or ('group', wanted) in case.rows) and (row is None or row in case.rows):
+                return self.add(case, context)
+        raise SystemExit('no group with answer %s' % (row or wanted))
+
+    def renaming(self, context, tokens):
+        """Sets that give an ID and its references another value; none if there
+        is no ID."""
+        root = ref.tree_of(tokens)
+        ids = self.make.ids(context, root) if root else []
+        if not ids:
+            return []
+        ref.lay(root)
+        old, new = self.r.choice(ids), self.r.choice([self.r.randrange(65536)] * 5 + ids)
+        edits = []
+        for element in root.elements():
+            if element.name < len(context.rules.elements):
+                kinds = context.rules.elements[element.name].attributes
+                for number, values in sorted(element.attributes.items()):
+                    if kinds.get(number, (CDATA,))[0] != CDATA and old in values and self.make.chance(0.95):
+                        piece = [8 * number + ATTRIBUTE] + [8 * (new if value == old else value) + VALUE for value in values]
+                        edits.append((4, element.place, piece))
+        return edits
+
     def question(self, wanted=None):
         r = self.r
         while True:
@@ -1717,6 +1800,10 @@ class Cases:
                 self.check(number, self.own())
             elif call == 'edit, own table':
                 self.edit(None, number, self.own())
+            elif call == 'group':
+                self.grouping(number)
+            elif call == '(group)':
+                self.grouping(row=(call, number))
             elif call == 'elements':
                 self.question(number)
             elif call == '(counts)':
@@ -1740,7 +1827,7 @@ class Cases:
                 (self.comparison, 5)]
         checks = sorted(REQUIRED['check'])
         pairs = [(op, number) for op, name in OPERATIONS.items() for number in sorted(REQUIRED['editBy ' + name])]
-        ways += [(self.run_back, 1), (self.listing, 8), (self.question, 2), (lambda: self.check(), 4), (lambda: self.check(r.choice(checks)), 10),
+        ways += [(self.run_back, 1), (self.listing, 8), (self.grouping, 6), (self.question, 2), (lambda: self.check(), 4), (lambda: self.check(r.choice(checks)), 10),
                  (lambda: self.check(r.choice([None, 0, 9]), self.own()), 6),
                  (lambda: self.edit(), 8), (lambda: self.edit(None, 0), 16),
                  (lambda: self.edit(*r.choice(pairs)), 20),
@@ -1906,7 +1993,7 @@ def locate(scratch, failed):
 
 
 def compared_with(program, cases):
-    """Compares checks, edits and lists with the answers of the program in second/,
+    """Compares checks, edits, lists and groups with the answers of the program in second/,
     whose tokens have 32 bits; gives the exit status."""
     asked, wanted = [], []
     for context in cases.contexts:
@@ -1923,7 +2010,7 @@ def compared_with(program, cases):
     bad = [pair for pair in zip(wanted, answers) if pair[0][0].lines[1].split() != pair[1].split()]
     for (case, context), answer in bad[:5]:
         print('schema file: %s\n%s\n    second: %s\n' % (context.file, case.told, answer))
-    print('%d checks, edits, lists and questions of both programs, %d differ' % (len(wanted), len(bad)))
+    print('%d checks, edits, lists, groups and questions of both programs, %d differ' % (len(wanted), len(bad)))
     return 1 if bad else 0
 
 

@@ -1018,6 +1018,57 @@ def list_edit(table, buffer, used, numbers, counts):
     return number, 0, used, 0, 0, 0, list(buffer), list(counts)
 
 
+# ----------------------------------------------------------------- groups
+
+def stepped(tokens, room, operation, place, piece):
+    """The document after an edit that is in form, whatever it leaves; raises
+    Refused. Its place and its size are tested, the latter against so much room."""
+    if not 1 <= operation <= 5:
+        raise Refused(6)
+    given = piece_of(operation, piece)
+    root = changed(tree_of(tokens), operation, place, given)[0]
+    after = lay(root)
+    if len(after) > TOKENS or len(after) > room or root.height() > DEPTH:
+        raise Refused(5)
+    return after
+
+
+def group_by_schema(schema, buffer, used, numbers, second):
+    """(number, place, used after, change, which edit, buffer after, second
+    buffer after)"""
+    which, longest, last = 0, 0, []
+
+    def worked():
+        """The second buffer: the last document, 0 as far as the longest went."""
+        return last + [0] * (longest - len(last)) + list(second[longest:])
+
+    try:
+        document(buffer, used)
+        edits = edits_of(numbers)
+        if len(second) < len(buffer):
+            raise Refused(5)
+        last, longest = list(buffer[:used]), used
+        for which, one in enumerate(edits, 1):
+            last = stepped(last, len(buffer), *one)
+            longest = max(longest, len(last))
+        which = 0
+        number, place = check_by_schema(schema, last, len(last))
+        if number:
+            raise Refused(number, place)
+    except Refused as refused:
+        return refused.number, refused.place, used, 0, which, list(buffer), worked()
+    after = last + [0] * (used - len(last)) + list(buffer[max(used, len(last)):])
+    return 0, 0, len(last), len(last) - used, 0, after, worked()
+
+
+def group_edit(table, buffer, used, numbers, second):
+    """(number, place, used after, change, which edit, buffer after, second
+    buffer after)"""
+    if not proper(table):
+        return 13, 0, used, 0, 0, list(buffer), list(second)
+    return group_by_schema(rules_of(table), buffer, used, numbers, second)
+
+
 # ---------------------------------------------------------------- compare
 
 def lost(old, new, names):
@@ -1372,6 +1423,50 @@ def self_test():
     same(program(files[0] + [0], [128], files[2]), b'stop 2\n')
     same(program(files[0] + [0], [128], None), b'stop 5\n')
     same(program(files[0] + [0], [0] * 65537, []), b'stop 5\n')
+
+    # groups (item 9)
+    def try_group(numbers, wanted, first=None, second=None, places=40, more=40):
+        """The answer's numbers and, if given, the fronts of both buffers: the
+        rest is as it was."""
+        room, other = SHADE_DOC + [99] * (places - 15), [98] * more
+        got = group_edit(table, room, 15, numbers, other)
+        same(group_by_schema(schema, room, 15, numbers, other), got)
+        same(got[:5], wanted)
+        first = SHADE_DOC if first is None else first
+        same(got[5], first + room[len(first):])
+        if second is not None:
+            same(got[6], second + other[len(second):])
+
+    rename = [4, 3, 2, 12, 173, 4, 10, 2, 20, 173]
+    renamed = [1, 4, 61, 9, 12, 173, 17, 243, 2, 2, 25, 20, 173, 2, 2]
+    try_group(rename, (0, 0, 15, 0, 0), renamed, renamed)
+    try_group(rename[5:] + rename[:5], (0, 0, 15, 0, 0), renamed, renamed)
+    for step in (rename[:5], rename[5:]):
+        same(list_edit(table, SHADE_DOC, 15, step, ones)[0], 12)            # each step alone
+        try_group(step, (12, 12, 15, 0, 0))
+    lengths = [1, 10, 4, 25, 20, 165, 2, 2, 10, 0, 2, 10, 0]                # 19, 15 and 11 tokens
+    shorter = SHADE_DOC[:10] + [2]
+    try_group(lengths, (0, 0, 11, -4, 0), shorter + [0] * 4, shorter + [0] * 8)
+    try_group(lengths + [9, 0, 0], (6, 0, 15, 0, 4), None, shorter + [0] * 8)
+    try_group([9, 0, 0], (6, 0, 15, 0, 1), None, SHADE_DOC)                  # a first edit that is refused has begun
+    try_group([2, 3, 0], (9, 3, 15, 0, 0), None, [1, 4, 61, 25, 20, 165, 2, 2] + [0] * 7, 15, 15)
+    try_group(rename[:5] + [1, 3, 1, 4], (4, 0, 15, 0, 2))
+    try_group(rename[:5] + [2, 4, 0], (6, 0, 15, 0, 2))
+    use_twice = [1, 10, 4, 25, 20, 165, 2] * 2
+    try_group(use_twice, (5, 0, 15, 0, 2), None, SHADE_DOC[:10] + [25, 20, 165, 2] + SHADE_DOC[10:], 22, 40)   # the first one's size
+    try_group(use_twice, (0, 0, 23, 8, 0), SHADE_DOC[:10] + [25, 20, 165, 2] * 2 + SHADE_DOC[10:], None, 23, 23)
+    try_group([2, 3, 0, 1, 3, 4, 9, 12, 165, 2], (0, 0, 12, -3, 0), [1, 4, 61, 9, 12, 165, 2] + SHADE_DOC[10:] + [0] * 3)
+    try_group([3, 0, 8, 9, 4, 61, 9, 12, 165, 2, 2], (10, 0, 15, 0, 0))
+    # before any edit: 13, shape, the list, the second buffer
+    same(group_edit([], SHADE_DOC, 99, [], [5]), (13, 0, 99, 0, 0, SHADE_DOC, [5]))
+    same(group_edit(table, SHADE_DOC, 99, set_title * 257, [5]), (4, 0, 99, 0, 0, SHADE_DOC, [5]))
+    try_group([], (4, 0, 15, 0, 0), None, [], 40, 3)
+    try_group(set_title * 257, (5, 0, 15, 0, 0), None, [], 40, 39)
+    try_group(rename[:-1], (4, 0, 15, 0, 0), None, [], 40, 39)
+    try_group(rename, (5, 0, 15, 0, 0), None, [], 40, 39)
+    try_group([9, 0, 0], (5, 0, 15, 0, 0), None, [], 40, 39)
+    # judged whole, also where nothing was touched
+    same(group_edit(table, [1, 4, 61, 9, 12, 165, 25, 20, 165, 2, 2, 2], 12, set_title, [0] * 12)[:5], (9, 6, 12, 0, 0))
 
     # fixed attributes (item 8)
     def one_empty(*attributes):

@@ -4,7 +4,7 @@
 use super::documents::Scale;
 use super::lent::{lent_changed, lent_document, lent_table, old_words, other_used, Base};
 use super::runs::Run;
-use super::{bad_texts, compares, edits, files, lists, programs, schemas, tables, tallies, texts};
+use super::{bad_texts, compares, edits, files, groups, lists, programs, schemas, tables, tallies, texts};
 use crate::case::{Case, Outcome, Table};
 use crate::paper::compare::LEAST_ROOM;
 use crate::paper::table::{FIXED, WORDS};
@@ -13,7 +13,7 @@ use crate::random::Random;
 use std::rc::Rc;
 
 /// Slots of a group, and how many of them, the last ones, are runs of the edit program.
-pub const SLOTS: u64 = 110;
+pub const SLOTS: u64 = 115;
 pub const PROGRAM_SLOTS: u64 = 4;
 
 pub struct Group {
@@ -56,6 +56,7 @@ impl Group {
             86..=93 => self.text(random, slot - 86),
             94..=97 => self.compare(random),
             98..=103 => self.list(random),
+            104..=108 => self.group(random),
             _ if slot < programs_from => self.elements(random),
             _ => {
                 let way = (programs * PROGRAM_SLOTS + slot - programs_from) as usize;
@@ -190,6 +191,16 @@ impl Group {
         let table = lent_table(random, base);
         let counts = tallies::for_list(random, table.grammar.as_ref(), &doc, used, &list);
         Case::List { table, doc, used, list, counts }
+    }
+
+    /// A group of edits, with a second buffer.
+    fn group(&self, random: &mut Random) -> Case {
+        let base = if random.chance(80) { &self.schema } else { &self.drawn };
+        let (doc, used) = lent_document(random, &base.ground(), self.scale);
+        let list = groups::group(random, &base.ground(), &doc, used);
+        let used = if random.chance(4) { other_used(random, used, doc.len()) } else { used };
+        let second = groups::second(random, doc.len());
+        Case::Group { table: lent_table(random, base), doc, used, list, second }
     }
 
     /// The question, by a name that is declared or not.

@@ -37,8 +37,9 @@ pub fn list(random: &mut Random, ground: &Ground, buffer: &[u32], used: u64) -> 
         2 | 3 => blind(random, ground, buffer, used),
         _ => followed(random, ground, buffer, used),
     };
-    if random.chance(8) {
-        edits.push(long(random, ground, used));
+    if random.chance(10) {
+        let at = if random.chance(50) { 0 } else { edits.len() };
+        edits.insert(at, long(random, ground, used));
     }
     let mut list = numbers_of(&edits);
     if random.chance(25) {
@@ -93,7 +94,7 @@ fn followed(random: &mut Random, ground: &Ground, buffer: &[u32], used: u64) -> 
 }
 
 /// An edit that is done and the one that takes it back, in turn, up to 256 times; one of them may be another.
-fn swings(random: &mut Random, ground: &Ground, buffer: &[u32], used: u64) -> Vec<Edit> {
+pub fn swings(random: &mut Random, ground: &Ground, buffer: &[u32], used: u64) -> Vec<Edit> {
     let (there, _, back, _) = wanted(random, ground, buffer, used, answer::DONE);
     let pair = match back {
         Some(back) => [there, back],

@@ -9,6 +9,7 @@ pub mod faults;
 pub mod files;
 pub mod fixed;
 pub mod group;
+pub mod groups;
 pub mod keys;
 pub mod lent;
 pub mod lists;

@@ -6,6 +6,7 @@ pub mod dtd;
 pub mod edits;
 pub mod expression;
 pub mod grammar;
+pub mod groups;
 pub mod judgement;
 pub mod lists;
 pub mod numbers;
