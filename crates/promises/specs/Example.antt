@@ -32,10 +32,10 @@ abbrev pub schema : Schema
 schema = record {
   root = 0;
   elements =
-      record { content = model (seq (plus (name 1)) (star (name 3))); attributes = record { number = 0; kind = 0; status = 0 } ∷ [] }
-      ∷ record { content = model (star (name 2)); attributes = record { number = 1; kind = 1; status = 0 } ∷ [] }
+      record { content = model (seq (plus (name 1)) (star (name 3))); attributes = record { number = 0; kind = 0; status = 0; value = 0 } ∷ [] }
+      ∷ record { content = model (star (name 2)); attributes = record { number = 1; kind = 1; status = 0; value = 0 } ∷ [] }
       ∷ record { content = text; attributes = [] }
-      ∷ record { content = empty; attributes = record { number = 2; kind = 2; status = 0 } ∷ [] }
+      ∷ record { content = empty; attributes = record { number = 2; kind = 2; status = 0; value = 0 } ∷ [] }
       ∷ [];
 }
 

@@ -225,7 +225,7 @@ module _ (calls : Calls) where
 
   -- ---- demand 3
 
-  -- the translator refuses a table of another length (13), and for one of 6,626 numbers ..
+  -- the translator refuses a table of another length (13), and for one of 6,675 numbers ..
   abbrev pub TranslateLength : Type 0
   TranslateLength = (file table : List ℕ) (o : ℕ × List ℕ) → Translates file table o → (o .0 ≡ 13) ↔ (length table ≢ tableLength)
 
