@@ -132,7 +132,7 @@ few-at [] h i = omega arith
 few-at (n ∷ l) h zero = leb-true n mostTokens (and-eq-true-iff (few n) (all few l) .0 h .0)
 few-at (n ∷ l) h (suc i) = few-at l (and-eq-true-iff (few n) (all few l) .0 h .1) i
 
-map-at : (l : List ℕ) (i : ℕ) → pos (getD l i 0) ≡ getD (map pos l) i (pos 0)
+pub map-at : (l : List ℕ) (i : ℕ) → pos (getD l i 0) ≡ getD (map pos l) i (pos 0)
 map-at [] i = refl
 map-at (n ∷ l) zero = refl
 map-at (n ∷ l) (suc i) = map-at l i

@@ -4,17 +4,17 @@ use mathlib.Core.Bool.{Bool, true, false, cond, _&&_, and-eq-true-iff}
 use mathlib.Core.List.{List, [], _∷_, map}
 use Prim.Native.Nat.{ℕ, zero, suc, _+_, _≤_, _<_}
 use native.Mathlib.Omega.{arith}
-use borrow.Author.Tests.{le-leb}
+use borrow.Author.Tests.{le-leb, le-ltb}
 use lib.Dec.{ltb}
 use lib.IntN.{ℤ, pos, _+ℤ_, _-ℤ_, +ℤ-idr}
-use lib.ListN.{length, getD, length-map}
+use lib.ListN.{length, getD, replicate, length-map}
 use lib.Seq.{ext-getD}
 use Rattle.paper.specs.declared.Tok.{Tok}
 use Rattle.paper.specs.Basics.{mostTokens, mostElements, all}
 use Rattle.paper.specs.Tokens.{toks}
 use Rattle.paper.specs.Counts.{tally, counted, countsBy, fresh, movedFrom, countGood}
 use Rattle.basic_laws.specs.Bools.{both}
-use Rattle.tallies.specs.Tallies.{namesBy, names-long, names-at, tallies, tallies-long, tallies-at, tallies-few}
+use Rattle.tallies.specs.Tallies.{namesBy, names-long, names-at, tallies, tallies-long, tallies-at, tallies-few, tallies-none}
 use Rattle.counts.specs.Moved.{within, few, few-within, within-good, FewEach, movedAt, movedBy}
 
 -- what an edit does to the counts
@@ -86,6 +86,25 @@ module _ {E : ℕ} {goes comes : List Tok} {counts : List ℤ} where
       let is : after ≡ map within (movedFrom goes comes E 0 counts) = ea ∙ ap₂ (movedBy counts) eg ec ∙ moved-is E goes comes counts long in
       let good : r ≡ all countGood (movedFrom goes comes E 0 counts) = er ∙ ap (all few) is ∙ all-within (movedFrom goes comes E 0 counts) in
       record { good = good; small = er; are = λ h. ap (map pos) is ∙ all-good (movedFrom goes comes E 0 counts) (sym good ∙ h) }
+
+-- ---- counts as they are
+
+pub record Stands (counts : List ℤ) (now : List ℕ) (r : Bool) : Type 0 where
+  pub good : r ≡ all countGood counts
+  pub are : r ≡ true → map pos now ≡ counts
+
+unmoved : (e : ℕ) (l : List ℤ) → movedFrom [] [] 0 e l ≡ l
+unmoved e [] = refl
+unmoved e (n ∷ l) = ap₂ (λ b m. cond b (n +ℤ pos 0 -ℤ pos 0) n ∷ m) (le-ltb e 0 (omega arith)) (unmoved (suc e) l)
+
+pub none-few : FewEach (replicate mostElements 0)
+none-few = rw (tallies-none 0) (record { long = tallies-long 0 []; most = tallies-few 0 [] (omega arith) })
+
+pub stands-all : {counts : List ℤ} {now : List ℕ} {r : Bool} → length counts ≡ mostElements
+    → now ≡ movedBy counts (replicate mostElements 0) (replicate mostElements 0) → r ≡ all few now → Stands counts now r
+stands-all {counts} {now} {r} long e er =
+    let m : Moved 0 [] [] counts now r = moved-all long (tallies-none 0) (tallies-none 0) e er in
+    record { good = m .good ∙ ap (all countGood) (unmoved 0 counts); are = λ h. m .are h ∙ unmoved 0 counts }
 
 -- ---- a fresh count
 

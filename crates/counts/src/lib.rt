@@ -14,7 +14,7 @@ ghost use Rattle.paper.specs.Basics.{mostTokens, mostElements, all};
 ghost use Rattle.paper.specs.Tokens.{toks};
 ghost use Rattle.paper.specs.Counts.{fresh};
 ghost use Rattle.counts.specs.Moved.{within, few, FewEach, movedBy};
-ghost use Rattle.counts.specs.Whole.{Moved};
+ghost use Rattle.counts.specs.Whole.{Moved, Stands};
 
 // "below 0 or above 8,192": stands for every such count.
 const OVER: u32 = 8193;
@@ -90,6 +90,15 @@ pub fn moves(
     tally(comes, elements, &mut come);
     move_all(counts, &gone, &come, after);
     all_few(after)
+}
+
+// The counts as they are. The answer: all are 0 to 8,192.
+pub fn read(counts: &[i32; 48], held: &mut [u32; 48]) -> bool
+    ensures { λ r. ⌜ Stands (now (counts .entry)) (now (held .exit)) r ⌝ }
+{
+    let none = [0u32; 48];
+    move_all(counts, &none, &none, held);
+    all_few(held)
 }
 
 // Writes counts that are 0 to 8,192.

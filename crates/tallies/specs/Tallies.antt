@@ -199,10 +199,13 @@ zeros : (E e k : ℕ) → replicate k 0 ≡ namesBy (λ e. counted E e 0) e k
 zeros E e zero = refl
 zeros E e (suc k) = ap₂ (λ x l. x ∷ l) (sym (nothing (ltb e E))) (zeros E (suc e) k)
 
+pub tallies-none : (E : ℕ) → replicate mostElements 0 ≡ tallies E []
+unfolding tallies
+tallies-none E = zeros E 0 mostElements
+
 module _ {E : ℕ} {part : List ℕ} where
   pub tallying-begin : {now : List ℕ} → E ≤ mostElements → length part ≤ mostTokens → now ≡ replicate mostElements 0 → Tallying E part 0 now
-  unfolding tallies
-  tallying-begin few short z = record { few = few; short = short; within = omega arith; so-far = z ∙ zeros E 0 mostElements }
+  tallying-begin few short z = record { few = few; short = short; within = omega arith; so-far = z ∙ tallies-none E }
 
   module _ {i : ℕ} {now : List ℕ} (t : Tallying E part i now) where
     pub tallying-room : Room now

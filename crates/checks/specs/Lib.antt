@@ -1,0 +1,2 @@
+-- The check that writes counts, and the question.
+pub mod Checked
