@@ -75,34 +75,34 @@ fn put_all(counts: &mut [i32], after: &[u32])
 
 // "carried along by edits": writes the counts after an edit by which some tokens go and others come. The answer: all are 0 to 8,192.
 pub fn moves(
-    counts: &[i32; 48],
+    counts: &[i32; paper::MOST_ELEMENTS],
     goes: &[u32],
     comes: &[u32],
     elements: u32,
-    after: &mut [u32; 48],
+    after: &mut [u32; paper::MOST_ELEMENTS],
 ) -> bool
     requires { ⌜ (elements ≤ mostElements) × (length (now goes) ≤ mostTokens) × (length (now comes) ≤ mostTokens) ⌝ }
     ensures { λ r. ⌜ Moved elements (toks (now (goes .entry))) (toks (now (comes .entry))) (now (counts .entry)) (now (after .exit)) r ⌝ }
 {
-    let mut gone = [0u32; 48];
+    let mut gone = [0u32; paper::MOST_ELEMENTS];
     tally(goes, elements, &mut gone);
-    let mut come = [0u32; 48];
+    let mut come = [0u32; paper::MOST_ELEMENTS];
     tally(comes, elements, &mut come);
     move_all(counts, &gone, &come, after);
     all_few(after)
 }
 
 // The counts as they are. The answer: all are 0 to 8,192.
-pub fn read(counts: &[i32; 48], held: &mut [u32; 48]) -> bool
+pub fn read(counts: &[i32; paper::MOST_ELEMENTS], held: &mut [u32; paper::MOST_ELEMENTS]) -> bool
     ensures { λ r. ⌜ Stands (now (counts .entry)) (now (held .exit)) r ⌝ }
 {
-    let none = [0u32; 48];
+    let none = [0u32; paper::MOST_ELEMENTS];
     move_all(counts, &none, &none, held);
     all_few(held)
 }
 
 // Writes counts that are 0 to 8,192.
-pub fn put(counts: &mut [i32; 48], after: &[u32; 48])
+pub fn put(counts: &mut [i32; paper::MOST_ELEMENTS], after: &[u32; paper::MOST_ELEMENTS])
     requires { ⌜ all few (now after) ≡ true ⌝ }
     ensures { λ _. ⌜ now (counts .exit) ≡ map pos (now (after .entry)) ⌝ }
 {
@@ -110,11 +110,11 @@ pub fn put(counts: &mut [i32; 48], after: &[u32; 48])
 }
 
 // "a fresh count": writes the counts of some tokens.
-pub fn count(doc: &[u32], elements: u32, counts: &mut [i32; 48])
+pub fn count(doc: &[u32], elements: u32, counts: &mut [i32; paper::MOST_ELEMENTS])
     requires { ⌜ (elements ≤ mostElements) × (length (now doc) ≤ mostTokens) ⌝ }
     ensures { λ _. ⌜ now (counts .exit) ≡ fresh elements (toks (now (doc .entry))) ⌝ }
 {
-    let mut found = [0u32; 48];
+    let mut found = [0u32; paper::MOST_ELEMENTS];
     tally(doc, elements, &mut found);
     put_all(counts, &found);
 }

@@ -75,13 +75,13 @@ pub fn commit(
 // one there. The answer: all are 0 to 8,192.
 fn carried(
     table: &[u64],
-    counts: &[i32; 48],
+    counts: &[i32; paper::MOST_ELEMENTS],
     doc: &[u32],
     new: &[u32],
     at: usize,
     cut: usize,
     coming: usize,
-    after: &mut [u32; 48],
+    after: &mut [u32; paper::MOST_ELEMENTS],
 ) -> bool
     requires { ⌜ (proper (now table) ≡ true) × (at + cut ≤ length (now doc)) × (cut ≤ mostTokens) × (at + coming ≤ length (now new)) × (coming ≤ mostTokens) ⌝ }
     ensures { λ r. ⌜ Moved (ofTable (now (table .entry)) .elements) (toks (take cut (drop at (now (doc .entry))))) (toks (take coming (drop at (now (new .entry))))) (now (counts .entry)) (now (after .exit)) r ⌝ }
@@ -105,7 +105,7 @@ fn edit_shaped(
     place: usize,
     piece: &[u32],
     back: &mut [u32],
-    counts: &mut [i32; 48],
+    counts: &mut [i32; paper::MOST_ELEMENTS],
 ) -> Answer
     requires { ⌜ (proper (now table) ≡ true) × (shapeOf (now doc) used ≡ true) ⌝ }
     ensures { λ r. ⌜ outcomeOf r (now (doc .exit)) (now (back .exit)) (now (counts .exit)) ≡ outcome (now (doc .entry)) used (now (back .entry)) (now (counts .entry)) (editing (ofTable (now (table .entry))) (length (now (doc .entry))) (length (now (back .entry))) (record { operation = operation; place = place; piece = now (piece .entry) }) (take used (now (doc .entry))) (now (counts .entry))) ⌝ }
@@ -122,7 +122,7 @@ fn edit_shaped(
     if back.len() < room {
         return refused(paper::ROOM, 0, used);
     }
-    let mut after = [0u32; 48];
+    let mut after = [0u32; paper::MOST_ELEMENTS];
     if !carried(table, counts, doc, &new, at, cut, f.coming, &mut after) {
         return refused(paper::COUNTS, 0, used);
     }
@@ -147,7 +147,7 @@ pub fn edit(
     place: usize,
     piece: &[u32],
     back: &mut [u32],
-    counts: &mut [i32; 48],
+    counts: &mut [i32; paper::MOST_ELEMENTS],
 ) -> Answer
     ensures { λ r. ⌜ outcomeOf r (now (doc .exit)) (now (back .exit)) (now (counts .exit)) ≡ edit (now (table .entry)) (now (doc .entry)) used (record { operation = operation; place = place; piece = now (piece .entry) }) (now (back .entry)) (now (counts .entry)) ⌝ }
 {
