@@ -44,7 +44,10 @@ judged-whole-requires c κs =
     let a = s .args in
     let r = ran (a .table .now) (a .doc .now) (a .used) (a .list .now) (a .second .now) (s .pre .1) (s .pre .3) (s .pre .2) (c .before .before .before .before .before .before .before .before .before .copy-tokens .ensures) (c .before .before .before .before .before .work .ensures) in
     let z = c .before .if1 .left in
-    (s .pre .0, last-long (a .table .now) (a .doc .now) (a .used) (a .list .now) (a .second .now) (s .pre .1) (s .pre .3) r z, last-few (a .table .now) (a .doc .now) (a .used) (a .list .now) (a .second .now) (s .pre .1) (s .pre .3) r z)
+    let start = shaped (a .doc .now) (a .used) (s .pre .1) in
+    let long = last-long (a .table .now) (a .doc .now) (a .used) (a .list .now) (a .second .now) (s .pre .1) (s .pre .3) r z in
+    let few = last-few (a .table .now) (a .doc .now) (a .used) (a .list .now) (a .second .now) (s .pre .1) (s .pre .3) r z in
+    (s .pre .0, omega (arith, long, start), omega (arith, few, start))
 
 refused-requires-2 : tie.Need-refused-requires-2
 refused-requires-2 c κs = search needs
