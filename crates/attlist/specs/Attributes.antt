@@ -183,10 +183,13 @@ module _ (n e : ℕ) (file : List ℕ) (at : ℕ) (before : List ℕ) where
           value = t .l;
           reads = t .same ∙ rw z (ap (λ l. ok l (drop (s .next) file)) (append-nil (t .l)));
           within = t .within;
-          holds = (t .sets, record {
-            few = omega (arith, ap length (t .entered), t .held .count, t .held .few);
-            added = t .held .same ∙ ap fixedNumbers (t .entered);
-          });
+          holds = (
+            t .sets,
+            record {
+              few = omega (arith, ap length (t .entered), t .held .count, t .held .few);
+              added = t .held .same ∙ ap fixedNumbers (t .entered);
+            },
+          );
         })
 
     module _ (h : i < n) {met : ℕ} (m : met ≡ length (entries fixed)) {a : Declared} (w : AttributeAt (s .low) (s .had) met file (s .next) a) where

@@ -213,7 +213,13 @@ fn note_fixed(fixed: &mut [u64], element: u32, a: Declared)
 }
 
 // The `count` attributes of an element at a place of the file. The entries of its fixed ones go behind those of the elements before.
-pub fn attributes_at(file: &[u8], at: usize, count: u32, element: u32, fixed: &mut [u64]) -> Attributes
+pub fn attributes_at(
+    file: &[u8],
+    at: usize,
+    count: u32,
+    element: u32,
+    fixed: &mut [u64],
+) -> Attributes
     requires { ⌜ (at ≤ length (now file)) × (Held (now fixed)) ⌝ }
     ensures { λ r. ⌜ AttributesAt count element (now (file .entry)) at r (now (fixed .entry)) (now (fixed .exit)) ⌝ }
 {

@@ -8,7 +8,12 @@ use keys::Fault;
 ghost use Rattle.paper.specs.Calls.{Checks, Tells};
 
 // The check of a document. "written by a check that says valid": the counts are then a fresh count, else as they were.
-pub fn check(table: &[u64], doc: &[u32], used: usize, counts: &mut [i32; paper::MOST_ELEMENTS]) -> Fault
+pub fn check(
+    table: &[u64],
+    doc: &[u32],
+    used: usize,
+    counts: &mut [i32; paper::MOST_ELEMENTS],
+) -> Fault
     ensures { λ r. ⌜ Checks (now (table .entry)) (now (doc .entry)) used (now (counts .entry)) ((r .number, r .place), now (counts .exit)) ⌝ }
 {
     let said = judge::check(table, doc, used);

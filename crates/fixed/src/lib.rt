@@ -43,7 +43,14 @@ fn proper_entry(table: &[u64], e: u64, a: u64, v: u64) -> bool
         return false;
     }
     let b = block_of(table, e as usize);
-    let may = may_fix(b[ALLOWED_AT], b[REQUIRED_AT], b[ID_AT], b[IDREF_AT], b[IDREFS_AT], a);
+    let may = may_fix(
+        b[ALLOWED_AT],
+        b[REQUIRED_AT],
+        b[ID_AT],
+        b[IDREF_AT],
+        b[IDREFS_AT],
+        a,
+    );
     may & (v <= MOST_NUMBER as u64)
 }
 

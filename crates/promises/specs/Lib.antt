@@ -21,6 +21,8 @@ pub mod Undone
 -- Item 6: what is promised, and its proofs
 pub mod Lists
 pub mod Listed
+-- Item 8: what is promised
+pub mod Fixed
 -- Item 9: what is promised, and its proofs
 pub mod Groups
 pub mod Grouped
@@ -32,6 +34,7 @@ pub mod Theorems
 pub mod DtdTheorems
 pub mod UndoTheorems
 pub mod ListTheorems
+pub mod FixedTheorems
 pub mod GroupTheorems
 pub mod Example
 pub mod DtdExample

@@ -159,7 +159,7 @@ module _ (E : ℕ) (file : List ℕ) (at : ℕ) (before : List ℕ) where
             let es = entries fixed ++ entriesOf i (v .value .attributes) in
             let now : entries g ≡ es = held-entries es (v .holds .entered .added) in
             let met : length (entries g) ≡ length (entries fixed) + fixedIn (v .value .attributes)
-                = ap length now ∙ length-append (entries fixed) (entriesOf i (v .value .attributes)) ∙ ap (λ k. length (entries fixed) + k) (length-entries i (v .value .attributes)) in
+            = ap length now ∙ length-append (entries fixed) (entriesOf i (v .value .attributes)) ∙ ap (λ k. length (entries fixed) + k) (length-entries i (v .value .attributes)) in
             let place : 0 + length (t .l) ≡ i = omega (arith, t .long) in
             record {
               l = t .l ++ v .value ∷ [];

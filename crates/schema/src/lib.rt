@@ -58,7 +58,14 @@ fn put_sets(block: &mut [u64], kind: u32, s: Attributes)
 }
 
 // Element e, at a place of the file, goes into a block of zeros, and its fixed attributes behind those of the elements before.
-fn put_element(file: &[u8], at: usize, elements: u32, e: u32, block: &mut [u64], fixed: &mut [u64]) -> Place
+fn put_element(
+    file: &[u8],
+    at: usize,
+    elements: u32,
+    e: u32,
+    block: &mut [u64],
+    fixed: &mut [u64],
+) -> Place
     requires { ⌜ (elements ≤ mostElements) × (now block ≡ replicate blockLength 0) × (Held (now fixed)) ⌝ }
     ensures { λ r. ⌜ ElementIn elements e (now (file .entry)) at r (now (block .exit)) (now (fixed .entry)) (now (fixed .exit)) ⌝ }
 {
@@ -89,7 +96,13 @@ fn put_element(file: &[u8], at: usize, elements: u32, e: u32, block: &mut [u64],
 
 // The `elements` elements at a place of the file go into a table that has its first two numbers, and zeros after them; their fixed
 // attributes among no entries.
-fn put_elements(file: &[u8], at: usize, elements: u32, table: &mut [u64], fixed: &mut [u64]) -> Place
+fn put_elements(
+    file: &[u8],
+    at: usize,
+    elements: u32,
+    table: &mut [u64],
+    fixed: &mut [u64],
+) -> Place
     requires { ⌜ (at ≤ length (now file)) × (elements ≤ mostElements) × (Head (now table)) × (now fixed ≡ fixedNumbers []) ⌝ }
     ensures { λ r. ⌜ ElementsIn elements (now (file .entry)) at r (now (table .entry)) (now (table .exit)) (now (fixed .exit)) ⌝ }
 {

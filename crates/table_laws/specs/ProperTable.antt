@@ -171,7 +171,7 @@ module _ (s : Schema) (g : GoodSchema s) where
       let status = eqb-true (y .status) 2 t in
       let rising = subst (Rising 0 false) q (own .rising) in
       let at : (i : ℕ) (P : Attribute → Bool) → ((x : Element) → cell (blockOf x) i ≡ setOf P (x .attributes)) → bit (cell (block (tableOf s) k) i) (y .number) ≡ P y
-          = λ i P p. set-same s fine few i P p k (y .number) ∙ ap (λ l. some-of (λ z. P z && eqb (y .number) (z .number)) l) q ∙ at-own P u v y 0 false rising in
+      = λ i P p. set-same s fine few i P p k (y .number) ∙ ap (λ l. some-of (λ z. P z && eqb (y .number) (z .number)) l) q ∙ at-own P u v y 0 false rising in
       both (both (both (both (both (both
       (lt-ltb k E h)
       (at allowedAt (λ z. true) (λ x. refl)))

@@ -43,10 +43,12 @@ attributes-at-requires c κs =
     let count = c .before .before .before in
     let content = count .before .before .before .before .before in
     let kind = content .before .before .before .before in
-    let start = kind .before .before .before .before in
-    (attributes-within (start .args .elements) (start .args .e) (now (start .args .file)) (start .args .at) (now (start .args .fixed))
-    (kind .number-in .ensures) (content .before .before .if1 .left) (content .put-content .ensures)
-    (count .before .if2 .left) (count .number-in2 .ensures) (c .before .if3 .left), start .pre .2)
+    let start = kind .before .before .before .before in (
+      attributes-within (start .args .elements) (start .args .e) (now (start .args .file)) (start .args .at) (now (start .args .fixed))
+          (kind .number-in .ensures) (content .before .before .if1 .left) (content .put-content .ensures)
+          (count .before .if2 .left) (count .number-in2 .ensures) (c .before .if3 .left),
+      start .pre .2,
+    )
 
 no-place-requires-4 : tie.Need-no-place-requires-4
 no-place-requires-4 c κs = search needs
