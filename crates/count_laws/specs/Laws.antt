@@ -2,12 +2,12 @@
 use mathlib.Core.Path.{_≡_, refl, sym, ap, ap₂, _∙_}
 use mathlib.Core.Bool.{Bool, true, false, cond}
 use mathlib.Core.List.{List, [], _∷_, _++_}
-use Prim.Native.Nat.{ℕ, zero, suc, _+_, _≤_}
+use Prim.Native.Nat.{ℕ, zero, suc, _+_, _≤_, _<_}
 use native.Mathlib.Omega.{arith}
-use borrow.Author.Tests.{le-leb}
+use borrow.Author.Tests.{le-leb, le-ltb}
 use lib.Dec.{leb, ltb, eqb}
 use lib.IntN.{ℤ, pos, _+ℤ_, _-ℤ_, +ℤ-negℤ-cancel}
-use lib.ListN.{length, take, drop, take-append-drop, length-map}
+use lib.ListN.{length, getD, take, drop, take-append-drop, length-map}
 use lib.Seq.{drop-drop}
 use Rattle.paper.specs.declared.Tok.{Tok}
 use Rattle.paper.specs.declared.Tok.the-variants.{Start, End, Text, Attr, Value, Bad}
@@ -16,7 +16,7 @@ use Rattle.paper.specs.Tokens.{toks, tokOf}
 use Rattle.paper.specs.Trees.{Given, Forest, nil, txt, elem, flatV, flatA, flat}
 use Rattle.paper.specs.Requests.{Request, spliceAt, spliceCut, coming, splice, edited}
 use Rattle.paper.specs.Back.{went}
-use Rattle.paper.specs.Counts.{tally, elementsIn, countsBy, fresh, TrueCounts, movedFrom, moved, countGood}
+use Rattle.paper.specs.Counts.{tally, elementsIn, counted, countsBy, fresh, TrueCounts, movedFrom, moved, countGood}
 use Rattle.tallies.specs.Tallies.{tally-most, tally-append}
 use Rattle.shape_laws.specs.Bridge.{toks-take, toks-drop}
 use Rattle.shape_laws.specs.EditJudged.{coming-toks, edited-toks}
@@ -117,3 +117,23 @@ fresh-length E d = long (λ e. tally e d) E 0 mostElements
     long : (f : ℕ → ℕ) (E e k : ℕ) → length (countsBy f E e k) ≡ k
     long f E e zero = refl
     long f E e (suc k) = ap suc (long f E (suc e) k)
+
+-- the count of a name below 48
+by-at : (f : ℕ → ℕ) (E e k n : ℕ) → n < k → getD (countsBy f E e k) n (pos 0) ≡ pos (counted E (e + n) (f (e + n)))
+by-at f E e zero n h = absurd (omega arith)
+by-at f E e (suc k) zero h = ap (λ m. pos (counted E m (f m))) (omega arith)
+by-at f E e (suc k) (suc n) h = by-at f E (suc e) k n (omega arith) ∙ ap (λ m. pos (counted E m (f m))) (omega arith)
+
+pub fresh-at : (E : ℕ) (d : List Tok) (e : ℕ) → e < mostElements → getD (fresh E d) e (pos 0) ≡ pos (counted E e (tally e d))
+unfolding fresh
+fresh-at E d e h = by-at (λ e. tally e d) E 0 mostElements e h ∙ ap (λ m. pos (counted E m (tally m d))) (omega arith)
+
+-- 0 from E on
+by-past : (f : ℕ → ℕ) (E e k n : ℕ) → E ≤ e + n → getD (countsBy f E e k) n (pos 0) ≡ pos 0
+by-past f E e zero n h = refl
+by-past f E e (suc k) zero h = ap (λ b. pos (cond b (f e) 0)) (le-ltb e E (omega arith))
+by-past f E e (suc k) (suc n) h = by-past f E (suc e) k n (omega arith)
+
+pub fresh-past : (E : ℕ) (d : List Tok) (e : ℕ) → E ≤ e → getD (fresh E d) e (pos 0) ≡ pos 0
+unfolding fresh
+fresh-past E d e h = by-past (λ e. tally e d) E 0 mostElements e (omega arith)

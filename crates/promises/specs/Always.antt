@@ -8,7 +8,7 @@ use Prim.Native.Nat.{ℕ, zero, suc}
 use native.Mathlib.Omega.{arith}
 use borrow.Author.Tests.{eqb-false}
 use lib.Dec.{eqb}
-use lib.IntN.{pos, _-ℤ_}
+use lib.IntN.{ℤ, pos, _-ℤ_}
 use lib.ListN.{length, take}
 use Rattle.paper.specs.Files.{Result, refused, made, Counted, counted, reading, writing, read, write}
 use Rattle.paper.specs.Schema.{Schema, Parsed, stop, ok, schemaOf}
@@ -16,7 +16,7 @@ use Rattle.paper.specs.Table.{tableLength, translated, translate, proper}
 use Rattle.paper.specs.Shape.{shapeOf}
 use Rattle.paper.specs.Rules.{Rules, ofTable}
 use Rattle.paper.specs.Judgement.{Answer, judge}
-use Rattle.paper.specs.Edits.{Request, Outcome, Edited, refused as rejected, done, outcome, Made, made as paper-made, touchedBy, sizeFault, answered, editing, editBy, written, edit}
+use Rattle.paper.specs.Edits.{Request, Outcome, Edited, refused as rejected, done, outcome, Made, made as paper-made, touchedBy, limitFault, answered, editing, editBy, written, edit}
 use Rattle.paper.specs.Tokens.{toks}
 use Rattle.paper.specs.Back.{noted}
 use Rattle.paper.specs.Dtd.Numbering.{namesOf}
@@ -91,38 +91,41 @@ answered-settled zero a m = go (eqb (a .0) 0) refl
     go false e = eqb-false (a .0) 0 e
 answered-settled (suc n) a m = λ z. absurd (omega arith)
 
-module _ (table buffer : List ℕ) (used : ℕ) (q : Request) (second : List ℕ) where
-  abbrev new : Made
-  new = paper-made q (take used buffer)
+module _ (table buffer : List ℕ) (used : ℕ) (q : Request) (second : List ℕ) (counts : List ℤ) where
+  abbrev new : Rules → Made
+  new R = paper-made (R .elements) q (take used buffer) counts
 
-  by-shape : (R : Rules) (b : Bool) → Settled new (cond b (editing R (length buffer) (length second) q (take used buffer)) (rejected 4 0))
+  by-shape : (R : Rules) (b : Bool) → Settled (new R) (cond b (editing R (length buffer) (length second) q (take used buffer) counts) (rejected 4 0))
   unfolding editing
-  by-shape R true = answered-settled (sizeFault (length buffer) (length second) q (take used buffer)) (judge R (touchedBy q (take used buffer)) (toks (new .tokens))) new
+  by-shape R true = answered-settled (limitFault (R .elements) (length buffer) (length second) q (take used buffer) counts)
+      (judge R (touchedBy q (take used buffer)) (toks (new R .tokens))) (new R)
   by-shape R false = λ z. absurd (omega arith)
 
-  by-table : (b : Bool) → Settled new (cond b (editBy (ofTable table) buffer used q second) (rejected 13 0))
+  by-table : (b : Bool) → Settled (new (ofTable table)) (cond b (editBy (ofTable table) buffer used q second counts) (rejected 13 0))
   unfolding editBy
   by-table true = by-shape (ofTable table) (shapeOf buffer used)
   by-table false = λ z. absurd (omega arith)
 
-  outcome-keeps : (x : Edited) → Settled new x → (o : Outcome) → o ≡ outcome buffer used second x → o .number ≢ 0 → Kept buffer used second o
-  outcome-keeps (rejected n p) s o e d = (cc, cc, cc, cc, cc)
+  outcome-keeps : (x : Edited) → Settled (new (ofTable table)) x → (o : Outcome) → o ≡ outcome buffer used second counts x → o .number ≢ 0 → Kept buffer used second counts o
+  outcome-keeps (rejected n p) s o e d = (cc, cc, cc, cc, cc, cc)
   outcome-keeps (done m) s o e d = absurd (d (cc))
 
-  outcome-leaves : (x : Edited) → Settled new x → (o : Outcome) → o ≡ outcome buffer used second x → o .number ≡ 0 → Left buffer used q second o
+  outcome-leaves : (x : Edited) → Settled (new (ofTable table)) x → (o : Outcome) → o ≡ outcome buffer used second counts x → o .number ≡ 0 → Left (ofTable table .elements) buffer used q second counts o
   outcome-leaves (rejected n p) s o e z = absurd (s (cc))
   outcome-leaves (done m) s o e z =
       subst
       (λ (x : Made). (o .place ≡ 0) × (o .used ≡ length (x .tokens)) × (o .change ≡ pos (length (x .tokens)) -ℤ pos used) × (o .buffer ≡ written buffer used (x .tokens))
-      × (o .children ≡ x .children) × (o .back ≡ noted second (x .back)))
-      s (cc, cc, cc, cc, cc, cc)
+      × (o .children ≡ x .children) × (o .back ≡ noted second (x .back)) × (o .counts ≡ x .counts))
+      s (cc, cc, cc, cc, cc, cc, cc)
 
 pub edit-keeps : EditKeeps papers
 unfolding edit
-edit-keeps table buffer used q second o e d =
-    outcome-keeps table buffer used q second (cond (proper table) (editBy (ofTable table) buffer used q second) (rejected 13 0)) (by-table table buffer used q second (proper table)) o e d
+edit-keeps table buffer used q second counts o e d =
+    outcome-keeps table buffer used q second counts (cond (proper table) (editBy (ofTable table) buffer used q second counts) (rejected 13 0))
+    (by-table table buffer used q second counts (proper table)) o e d
 
 pub edit-leaves : EditLeaves papers
 unfolding edit
-edit-leaves table buffer used q second o e z =
-    outcome-leaves table buffer used q second (cond (proper table) (editBy (ofTable table) buffer used q second) (rejected 13 0)) (by-table table buffer used q second (proper table)) o e z
+edit-leaves table buffer used q second counts o e z =
+    outcome-leaves table buffer used q second counts (cond (proper table) (editBy (ofTable table) buffer used q second counts) (rejected 13 0))
+    (by-table table buffer used q second counts (proper table)) o e z

@@ -5,10 +5,12 @@ use mathlib.Core.List.{List}
 use Prim.Native.Nat.{ℕ}
 use native.Mathlib.Omega.{arith}
 use lib.Dec.{eqb}
+use lib.IntN.{ℤ}
 use lib.ListN.{length}
 use Rattle.paper.specs.Schema.{Schema, schemaOf}
 use Rattle.paper.specs.Table.{tableLength, tableOf, translated, translate}
 use Rattle.paper.specs.Rules.{ofSchema}
+use Rattle.paper.specs.Judgement.{Answer}
 use Rattle.paper.specs.Edits.{Request, outcome, editBy, edit}
 use Rattle.table_laws.specs.Translated.{file-proper, file-rules, check-by-expressions, edit-by-expressions}
 use Rattle.promises.specs.Calls.{papers}
@@ -23,9 +25,9 @@ module _ (s : Schema) (table : List ℕ) (t : Translated papers s table) where
       go true e = ap (λ (x : ℕ × List ℕ). x .1) (e ∙ ap (λ p. translated p (t .lent)) (t .reads))
       go false e = let z : _≡_ {A = ℕ} 0 13 = ap (λ (x : ℕ × List ℕ). x .0) e in absurd (omega arith)
 
-  pub edit-judged : (buffer : List ℕ) (used : ℕ) (q : Request) (second : List ℕ)
-      → edit table buffer used q second ≡ outcome buffer used second (editBy (ofSchema s) buffer used q second)
-  edit-judged buffer used q second = rw its-table (edit-by-expressions (t .file) (t .reads) buffer used q second)
+  pub edit-judged : (buffer : List ℕ) (used : ℕ) (q : Request) (second : List ℕ) (counts : List ℤ)
+      → edit table buffer used q second counts ≡ outcome buffer used second counts (editBy (ofSchema s) buffer used q second counts)
+  edit-judged buffer used q second counts = rw its-table (edit-by-expressions (t .file) (t .reads) buffer used q second counts)
 
 pub table-proper : TableProper papers
 table-proper s table t = rw (its-table s table t) (file-proper (t .file) (t .reads))
@@ -34,4 +36,4 @@ pub table-reads : TableReads papers
 table-reads s table t = rw (its-table s table t) (file-rules (t .file) (t .reads))
 
 pub check-judged : CheckByExpressions papers
-check-judged s table t buffer used o e = e ∙ rw (its-table s table t) (check-by-expressions (t .file) (t .reads) buffer used)
+check-judged s table t buffer used counts o e = ap (λ (x : Answer × List ℤ). x .0) e ∙ rw (its-table s table t) (check-by-expressions (t .file) (t .reads) buffer used)

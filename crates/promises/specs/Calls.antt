@@ -1,6 +1,7 @@
 -- The calls, each by the outcomes that its contract allows. A promise is said of any such calls. Assumes nothing.
 use mathlib.Core.List.{List}
 use Prim.Native.Nat.{ℕ}
+use lib.IntN.{ℤ}
 use Rattle.paper.specs.Files.{Counted}
 use Rattle.paper.specs.Judgement.{Answer}
 use Rattle.paper.specs.Edits.{Request, Outcome}
@@ -15,9 +16,10 @@ pub record Calls : Type 1 where
   pub Reads : (file buffer : List ℕ) → Counted → Type 0
   pub Writes : (tokens buffer : List ℕ) → Counted → Type 0
   pub Translates : (file table : List ℕ) → ℕ × List ℕ → Type 0
-  pub Checks : (table buffer : List ℕ) → (used : ℕ) → Answer → Type 0
-  pub Performs : (table buffer : List ℕ) → (used : ℕ) → Request → (second : List ℕ) → Outcome → Type 0
-  pub PerformsList : (table buffer : List ℕ) → (used : ℕ) → (list : List ℕ) → Listed Outcome → Type 0
+  pub Checks : (table buffer : List ℕ) → (used : ℕ) → (counts : List ℤ) → Answer × List ℤ → Type 0
+  pub Performs : (table buffer : List ℕ) → (used : ℕ) → Request → (second : List ℕ) → (counts : List ℤ) → Outcome → Type 0
+  pub Tells : (table : List ℕ) → (counts : List ℤ) → (name : ℕ) → ℕ × ℕ → Type 0
+  pub PerformsList : (table buffer : List ℕ) → (used : ℕ) → (list : List ℕ) → (counts : List ℤ) → Listed Outcome → Type 0
   pub PerformsGroup : (table buffer : List ℕ) → (used : ℕ) → (list second : List ℕ) → GroupOutcome → Type 0
   pub Compares : (old new : List ℕ) → (element : ℕ) → (buffer : List ℕ) → Compared → Type 0
   pub Imports : (text buffer : List ℕ) → Counted → Type 0
@@ -32,6 +34,7 @@ papers = record {
   Translates = paper.Translates;
   Checks = paper.Checks;
   Performs = paper.Performs;
+  Tells = paper.Tells;
   PerformsList = paper.PerformsList;
   PerformsGroup = paper.PerformsGroup;
   Compares = paper.Compares;
@@ -45,9 +48,12 @@ pub record Faithful (calls : Calls) : Type 0 where
   pub reads : (file buffer : List ℕ) (o : Counted) → calls .Reads file buffer o → paper.Reads file buffer o
   pub writes : (tokens buffer : List ℕ) (o : Counted) → calls .Writes tokens buffer o → paper.Writes tokens buffer o
   pub translates : (file table : List ℕ) (o : ℕ × List ℕ) → calls .Translates file table o → paper.Translates file table o
-  pub checks : (table buffer : List ℕ) (used : ℕ) (o : Answer) → calls .Checks table buffer used o → paper.Checks table buffer used o
-  pub performs : (table buffer : List ℕ) (used : ℕ) (q : Request) (second : List ℕ) (o : Outcome) → calls .Performs table buffer used q second o → paper.Performs table buffer used q second o
-  pub performs-list : (table buffer : List ℕ) (used : ℕ) (list : List ℕ) (o : Listed Outcome) → calls .PerformsList table buffer used list o → paper.PerformsList table buffer used list o
+  pub checks : (table buffer : List ℕ) (used : ℕ) (counts : List ℤ) (o : Answer × List ℤ) → calls .Checks table buffer used counts o → paper.Checks table buffer used counts o
+  pub performs : (table buffer : List ℕ) (used : ℕ) (q : Request) (second : List ℕ) (counts : List ℤ) (o : Outcome)
+      → calls .Performs table buffer used q second counts o → paper.Performs table buffer used q second counts o
+  pub tells : (table : List ℕ) (counts : List ℤ) (name : ℕ) (o : ℕ × ℕ) → calls .Tells table counts name o → paper.Tells table counts name o
+  pub performs-list : (table buffer : List ℕ) (used : ℕ) (list : List ℕ) (counts : List ℤ) (o : Listed Outcome)
+      → calls .PerformsList table buffer used list counts o → paper.PerformsList table buffer used list counts o
   pub performs-group : (table buffer : List ℕ) (used : ℕ) (list second : List ℕ) (o : GroupOutcome) → calls .PerformsGroup table buffer used list second o → paper.PerformsGroup table buffer used list second o
   pub compares : (old new : List ℕ) (e : ℕ) (buffer : List ℕ) (o : Compared) → calls .Compares old new e buffer o → paper.Compares old new e buffer o
   pub imports : (text buffer : List ℕ) (o : Counted) → calls .Imports text buffer o → paper.Imports text buffer o
@@ -59,9 +65,10 @@ papers-faithful = record {
   reads = λ file buffer o r. r;
   writes = λ tokens buffer o w. w;
   translates = λ file table o t. t;
-  checks = λ table buffer used o c. c;
-  performs = λ table buffer used q second o p. p;
-  performs-list = λ table buffer used list o p. p;
+  checks = λ table buffer used counts o c. c;
+  performs = λ table buffer used q second counts o p. p;
+  tells = λ table counts name o t. t;
+  performs-list = λ table buffer used list counts o p. p;
   performs-group = λ table buffer used list second o p. p;
   compares = λ old new e buffer o c. c;
   imports = λ text buffer o i. i;

@@ -1,8 +1,9 @@
--- What is promised of item 10, the children looked at, stated of any ten calls. That a done edit reports their number stands in `Left`, that a
+-- What is promised of item 10, the children looked at, stated of any calls. That a done edit reports their number stands in `Left`, that a
 -- refused one reports 0 in `Kept`, and whose children they are on the tree in `EditIsTreeEdit` (Statements). Assumes nothing.
 use mathlib.Core.Path.{_≡_}
 use mathlib.Core.List.{List}
 use Prim.Native.Nat.{ℕ, _+_, _≤_}
+use lib.IntN.{ℤ}
 use lib.ListN.{length, take}
 use Rattle.paper.specs.Tokens.{toks, parent}
 use Rattle.paper.specs.Edits.{Request, Outcome, spliceAt, edited, childrenOf}
@@ -19,5 +20,5 @@ module _ (calls : Calls) where
 
   -- "It is never above the first of these plus the piece's tokens."
   abbrev pub EditCostBounded : Type 0
-  EditCostBounded = (table buffer : List ℕ) (used : ℕ) (q : Request) (second : List ℕ) (o : Outcome) → Performs table buffer used q second o → o .number ≡ 0
+  EditCostBounded = (table buffer : List ℕ) (used : ℕ) (q : Request) (second : List ℕ) (counts : List ℤ) (o : Outcome) → Performs table buffer used q second counts o → o .number ≡ 0
       → o .children ≤ parentChildren q (take used buffer) + length (q .piece)

@@ -31,9 +31,9 @@ coming-few op p = go (eqb op 1) (eqb op 2) (eqb op 3) (eqb op 4)
     go false false false false = omega arith
 
 pub bounded : EditCostBounded papers
-bounded table buffer used q second o e z =
+bounded table buffer used q second counts o e z =
     let doc : List ℕ = take used buffer in
-    let (s, f, r) = done-form table buffer used q second o e z in
+    let (s, f, r) = done-form table buffer used q second counts o e z in
     let one = shape-element buffer used s in
     let a = form-iff (length buffer) q doc .0 f in
     let p : List Tok = coming (q .operation) (toks (q .piece)) in
@@ -41,7 +41,7 @@ bounded table buffer used q second o e z =
     let rest : List Tok = drop (at + spliceCut (q .operation) (q .place) (toks (q .piece)) (toks doc)) (toks doc) in
     omega (
       arith,
-      edit-leaves table buffer used q second o e z .4,
+      edit-leaves table buffer used q second counts o e z .4,
       looked-is (length buffer) q doc one a,
       parent-looked (length buffer) q doc one a,
       own-is p rest (piece-comes (length buffer) q doc one a),

@@ -4,6 +4,7 @@ use mathlib.Core.Logic.{_↔_, _≢_, _⊎_}
 use mathlib.Core.Bool.{true, false}
 use mathlib.Core.List.{List, _++_, map}
 use Prim.Native.Nat.{ℕ, _≤_, _<_}
+use lib.IntN.{ℤ}
 use lib.ListN.{length, take, drop}
 use Rattle.paper.specs.declared.Tok.the-variants.{Start}
 use Rattle.paper.specs.Basics.{null}
@@ -31,7 +32,7 @@ use Rattle.dtd_schema_laws.specs.Valid.{ValidByText}
 use Rattle.dtd_stays_laws.specs.Stays.{Settled}
 use Rattle.promises.specs.Calls.{Calls}
 use Rattle.promises.specs.Statements.{Determinate, Translated, Runs}
-use Rattle.promises.specs.Right.{Step, EachRight}
+use Rattle.promises.specs.Right.{TrueBeside, Step, EachRight}
 
 -- ---- what a text declares
 
@@ -183,11 +184,12 @@ module _ (calls : Calls) where
   -- .. and the whole check says valid exactly when the document is valid by the text.
   abbrev pub CheckByText : Type 0
   CheckByText = (text table : List ℕ) → Imported text table → (ds : List Declaration) → Declares text ds
-      → (buffer : List ℕ) (used : ℕ) (o : Answer) → Checks table buffer used o
-      → (o .0 ≡ 0) ↔ ValidInBuffer ds buffer used
+      → (buffer : List ℕ) (used : ℕ) (counts : List ℤ) (o : Answer × List ℤ) → Checks table buffer used counts o
+      → (o .0 .0 ≡ 0) ↔ ValidInBuffer ds buffer used
 
   -- Demand 3, from a document that is valid by the text
   abbrev pub Demand3ByText : Type 0
   Demand3ByText = (text table : List ℕ) → Imported text table → (ds : List Declaration) → Declares text ds
       → (buffer : List ℕ) (used : ℕ) → ValidInBuffer ds buffer used
-      → (l : List Step) → Runs calls table buffer used l → EachRight (schemaFor ds) buffer used l
+      → (counts : List ℤ) → TrueBeside (schemaFor ds) buffer used counts
+      → (l : List Step) → Runs calls table buffer used counts l → EachRight (schemaFor ds) buffer used counts l

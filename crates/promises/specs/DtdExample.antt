@@ -6,6 +6,7 @@ use Prim.Native.Nat.{ℕ}
 use lib.ListN.{replicate}
 use Rattle.paper.specs.Table.{tableLength, tableOf}
 use Rattle.paper.specs.Judgement.{check}
+use Rattle.paper.specs.Counts.{checkedCounts}
 use Rattle.paper.specs.Open.{all-open}
 use Rattle.paper.specs.Dtd.Letters.{ascii}
 use Rattle.paper.specs.Dtd.Declarations.{once, many, word, sequence, only, empty, model, cdata, implied, Declaration, element, attlist}
@@ -47,4 +48,5 @@ document = 1 ∷ 9 ∷ 2 ∷ 9 ∷ 2 ∷ 2 ∷ []
 
 pub valid : ValidInBuffer declarations document 6
 unfolding all-open
-valid = check-by-text papers papers-faithful text (tableOf (schemaFor declarations)) imported declarations declares document 6 (check (tableOf (schemaFor declarations)) document 6) refl .0 refl
+valid = check-by-text papers papers-faithful text (tableOf (schemaFor declarations)) imported declarations declares document 6 []
+    (check (tableOf (schemaFor declarations)) document 6, checkedCounts (tableOf (schemaFor declarations)) document 6 []) refl .0 refl

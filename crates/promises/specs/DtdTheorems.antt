@@ -91,9 +91,9 @@ module _ (calls : Calls) (is : Faithful calls) where
       }
 
   pub check-by-text : dtd.CheckByText calls
-  check-by-text text table i ds d buffer used o c =
-      Iff·trans (check-valid calls is (schemaFor ds) table (imported-is-translated text table i ds d) buffer used o c) (valid-by-schema text ds d buffer used)
+  check-by-text text table i ds d buffer used counts o c =
+      Iff·trans (check-valid calls is (schemaFor ds) table (imported-is-translated text table i ds d) buffer used counts o c) (valid-by-schema text ds d buffer used)
 
   pub demand-3-by-text : dtd.Demand3ByText calls
-  demand-3-by-text text table i ds d buffer used v l r =
-      demand-3 calls is (schemaFor ds) table (imported-is-translated text table i ds d) buffer used (valid-by-schema text ds d buffer used .1 v) l r
+  demand-3-by-text text table i ds d buffer used v counts c l r =
+      demand-3 calls is (schemaFor ds) table (imported-is-translated text table i ds d) buffer used (valid-by-schema text ds d buffer used .1 v) counts c l r

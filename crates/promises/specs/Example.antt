@@ -7,21 +7,22 @@ use mathlib.Core.Option.{some}
 use Prim.Native.Nat.{ℕ, _<_}
 use borrow.Author.Tests.{ltb-true}
 use lib.Dec.{ltb}
+use lib.IntN.{ℤ}
 use lib.ListN.{replicate}
 use Rattle.paper.specs.Basics.{all, concat}
 use Rattle.paper.specs.Files.{fileOf}
 use Rattle.paper.specs.Expressions.{name, seq, star, plus}
 use Rattle.paper.specs.Schema.{Schema, empty, text, model}
 use Rattle.paper.specs.Table.{tableLength, tableOf}
-use Rattle.paper.specs.Judgement.{check}
 use Rattle.paper.specs.Validity.{ValidDocument}
 use Rattle.paper.specs.Back.{numbersOf}
 use Rattle.paper.specs.Edits.{Request, Outcome, edit}
+use Rattle.paper.specs.Calls.{Checks}
 use Rattle.paper.specs.Program.{line, linesOf}
 use Rattle.paper.specs.Open.{all-open}
-use Rattle.paper.specs.SmallShade.{shade, small, buffer, second}
+use Rattle.paper.specs.SmallShade.{shade, small, buffer, second, counts}
 use Rattle.promises.specs.Calls.{papers, papers-faithful}
-use Rattle.promises.specs.Right.{Step, EachRight}
+use Rattle.promises.specs.Right.{TrueBeside, Step, EachRight}
 use Rattle.promises.specs.Statements.{Translated, Runs}
 use Rattle.promises.specs.Theorems.{check-valid, demand-3}
 
@@ -69,31 +70,36 @@ translated = record {
   translates = refl;
 }
 
-checked : (0, 0) ≡ check (tableOf schema) buffer 15
+checked : Checks (tableOf schema) buffer 15 counts ((0, 0), counts)
 unfolding all-open
 checked = refl
 
 pub valid : ValidDocument schema buffer 15
-valid = check-valid papers papers-faithful schema (tableOf schema) translated buffer 15 (0, 0) checked .0 refl
+valid = check-valid papers papers-faithful schema (tableOf schema) translated buffer 15 counts ((0, 0), counts) checked .0 refl
+
+-- the counts beside it are true
+counted : TrueBeside schema buffer 15 counts
+unfolding all-open
+counted = refl
 
 -- the edits, each made on what the one before left, and lent a second buffer
-abbrev pub made : (table buffer : List ℕ) → (used : ℕ) → List Request → List Step
-made table buffer used [] = []
-made table buffer used (q ∷ l) =
-    let o : Outcome = edit table buffer used q second in
-    record { asked = q; lent = second; came = o } ∷ made table (o .buffer) (o .used) l
+abbrev pub made : (table buffer : List ℕ) → (used : ℕ) → (counts : List ℤ) → List Request → List Step
+made table buffer used counts [] = []
+made table buffer used counts (q ∷ l) =
+    let o : Outcome = edit table buffer used q second counts in
+    record { asked = q; lent = second; came = o } ∷ made table (o .buffer) (o .used) (o .counts) l
 
-runs : (table buffer : List ℕ) (used : ℕ) (l : List Request) → Runs papers table buffer used (made table buffer used l)
-runs table buffer used [] = tt
-runs table buffer used (q ∷ l) = let o : Outcome = edit table buffer used q second in (refl, runs table (o .buffer) (o .used) l)
+runs : (table buffer : List ℕ) (used : ℕ) (counts : List ℤ) (l : List Request) → Runs papers table buffer used counts (made table buffer used counts l)
+runs table buffer used counts [] = tt
+runs table buffer used counts (q ∷ l) = let o : Outcome = edit table buffer used q second counts in (refl, runs table (o .buffer) (o .used) (o .counts) l)
 
 abbrev pub run : List Step
-run = made (tableOf schema) buffer 15 requests
+run = made (tableOf schema) buffer 15 counts requests
 
 -- ---- what is promised
 
-pub each-right : EachRight schema buffer 15 run
-each-right = demand-3 papers papers-faithful schema (tableOf schema) translated buffer 15 valid run (runs (tableOf schema) buffer 15 requests)
+pub each-right : EachRight schema buffer 15 counts run
+each-right = demand-3 papers papers-faithful schema (tableOf schema) translated buffer 15 valid counts counted run (runs (tableOf schema) buffer 15 counts requests)
 
 -- number, place and used length
 abbrev pub answerOf : Step → ℕ × ℕ × ℕ

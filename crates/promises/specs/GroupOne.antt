@@ -5,6 +5,7 @@ use mathlib.Core.List.{List, [], _∷_, _++_}
 use Prim.Native.Nat.{ℕ, _≤_}
 use native.Mathlib.Omega.{arith}
 use native.Mathlib.Decide.{ℕ-discrete}
+use lib.IntN.{ℤ}
 use lib.ListN.{length, take}
 use Rattle.paper.specs.Schema.{Schema}
 use Rattle.paper.specs.Judgement.{Answer}
@@ -21,8 +22,8 @@ only [] q x b e = (refl, cc)
 only (y ∷ []) q x b e = let z : _≡_ {A = ℕ} 0 1 = cc in absurd (omega arith)
 only (y ∷ k ∷ a) q x b e = let z : _≡_ {A = ℕ} 0 1 = cc in absurd (omega arith)
 
-module _ (s : Schema) (buffer : List ℕ) (used : ℕ) (q : Request) (o : GroupOutcome) (lent : List ℕ) (u : Outcome)
-    (g : GroupRight s buffer used (q ∷ []) o) (r : Right s buffer used q lent u) (room : needs q (take used buffer) ≤ length lent) where
+module _ (s : Schema) (buffer : List ℕ) (used : ℕ) (q : Request) (o : GroupOutcome) (lent : List ℕ) (counts : List ℤ) (u : Outcome)
+    (g : GroupRight s buffer used (q ∷ []) o) (r : Right s buffer used q lent counts u) (room : needs q (take used buffer) ≤ length lent) where
   abbrev fault : ℕ
   fault = formFault (length buffer) q (take used buffer)
 

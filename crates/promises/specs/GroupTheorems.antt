@@ -1,15 +1,19 @@
 -- The promises of item 9, proved: a line for each statement. Assumes nothing.
-use mathlib.Core.Path.{_≡_, refl}
+use mathlib.Core.Path.{_≡_, refl, subst}
 use mathlib.Core.Logic.{_↔_}
 use mathlib.Core.List.{List, [], _∷_}
 use Prim.Native.Nat.{ℕ}
+use lib.ListN.{take}
 use Rattle.paper.specs.Schema.{Schema}
-use Rattle.paper.specs.Rules.{ofSchema}
+use Rattle.paper.specs.Rules.{Rules, ofSchema}
 use Rattle.paper.specs.Judgement.{checking, check}
+use Rattle.paper.specs.Counts.{TrueCounts, checkedCounts}
 use Rattle.paper.specs.Validity.{ValidDocument}
 use Rattle.promises.specs.Calls.{Calls, papers, Faithful, papers-faithful}
 use Rattle.promises.specs.Statements.{Translated}
-use Rattle.promises.specs.Theorems.{by-paper, check-valid, check-by-expressions, demand-3}
+use Rattle.promises.specs.Theorems.{by-paper, check-valid, check-by-expressions, table-reads, demand-3}
+use Rattle.promises.specs.CountTheorems.{check-writes}
+use Rattle.promises.specs.Right.{TrueBeside}
 use Rattle.promises.specs.Groups as promised
 use Rattle.promises.specs.Grouped as grouped
 use Rattle.promises.specs.GroupOne as one
@@ -17,8 +21,8 @@ use Rattle.promises.specs.GroupOne as one
 valid-iff : (s : Schema) (table : List ℕ) → Translated papers s table
     → (buffer : List ℕ) (used : ℕ) → (checking (ofSchema s) buffer used .0 ≡ 0) ↔ ValidDocument s buffer used
 valid-iff s table t buffer used =
-    rw (check-by-expressions papers papers-faithful s table t buffer used (check table buffer used) refl) at
-    (check-valid papers papers-faithful s table t buffer used (check table buffer used) refl)
+    rw (check-by-expressions papers papers-faithful s table t buffer used [] (check table buffer used, checkedCounts table buffer used []) refl) at
+    (check-valid papers papers-faithful s table t buffer used [] (check table buffer used, checkedCounts table buffer used []) refl)
 
 module _ (calls : Calls) (is : Faithful calls) where
   pub group-determinate : promised.GroupDeterminate calls
@@ -45,11 +49,15 @@ module _ (calls : Calls) (is : Faithful calls) where
       grouped.group-right s (valid-iff s table u) table u buffer used v list second es x room o (is .performs-group table buffer used list second o p)
 
   pub group-then-run : promised.GroupThenRun calls
-  group-then-run s table t buffer used v list second es x room o p c e =
+  group-then-run s table t buffer used v list second es x room o p counts c e =
       let w : ValidDocument s (o .buffer) (o .used) = group-demand-3 s table t buffer used v list second es x room o p .valid-after in
-      (check-valid calls is s table t (o .buffer) (o .used) c e .1 w, demand-3 calls is s table t (o .buffer) (o .used) w)
+      let z : c .0 .0 ≡ 0 = check-valid calls is s table t (o .buffer) (o .used) counts c e .1 w in
+      let d : TrueBeside s (o .buffer) (o .used) (c .1) =
+      subst (λ (R : Rules). TrueCounts (R .elements) (take (o .used) (o .buffer)) (c .1)) (table-reads calls is s table t)
+      (check-writes calls is table (o .buffer) (o .used) counts c e .0 z) in
+      (z, d, demand-3 calls is s table t (o .buffer) (o .used) w (c .1) d)
 
   pub group-of-one : promised.GroupOfOne calls
-  group-of-one s table t buffer used v list second q x room o p lent u e n =
-      one.one-is-edit s buffer used q o lent u (group-demand-3 s table t buffer used v list second (q ∷ []) x room o p)
-      (demand-3 calls is s table t buffer used v (record { asked = q; lent = lent; came = u } ∷ []) (e, tt) .0) n
+  group-of-one s table t buffer used v list second q x room o p lent counts c u e n =
+      one.one-is-edit s buffer used q o lent counts u (group-demand-3 s table t buffer used v list second (q ∷ []) x room o p)
+      (demand-3 calls is s table t buffer used v counts c (record { asked = q; lent = lent; came = u } ∷ []) (e, tt) .0) n

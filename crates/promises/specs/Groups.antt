@@ -4,7 +4,7 @@ use mathlib.Core.Logic.{_↔_, _≢_}
 use mathlib.Core.Bool.{true, false}
 use mathlib.Core.List.{List, [], _∷_, _++_}
 use Prim.Native.Nat.{ℕ, suc, _-_, _≤_, _<_}
-use lib.IntN.{pos, _-ℤ_}
+use lib.IntN.{ℤ, pos, _-ℤ_}
 use lib.ListN.{length, take, drop, replicate}
 use Rattle.paper.specs.Schema.{Schema}
 use Rattle.paper.specs.Table.{proper}
@@ -19,7 +19,7 @@ use Rattle.paper.specs.Lists.{fault, edits, splitList}
 use Rattle.paper.specs.Answers.{Answers, groupAnswers}
 use Rattle.paper.specs.Groups.{GroupOutcome, notBegun, after, AllInForm}
 use Rattle.promises.specs.Calls.{Calls}
-use Rattle.promises.specs.Right.{Step, EachRight}
+use Rattle.promises.specs.Right.{TrueBeside, Step, EachRight}
 use Rattle.promises.specs.Statements.{Determinate, Translated, Runs}
 
 -- ---- before any edit
@@ -145,21 +145,22 @@ module _ (calls : Calls) where
       → (list second : List ℕ) (es : List Request) → splitList list ≡ edits es → length buffer ≤ length second
       → (o : GroupOutcome) → PerformsGroup table buffer used list second o → GroupRight s buffer used es o
 
-  -- "after a done one, demand 3's premise asks that a check [..] before the next edit or list": that check says valid, and any run of edits
-  -- from there is right
+  -- "after a done one, demand 3's premise asks that a check writes the counts before the next edit or list": that check says valid and writes
+  -- true counts, and any run of edits from there is right
   abbrev pub GroupThenRun : Type 0
   GroupThenRun = (s : Schema) (table : List ℕ) → Translated calls s table
       → (buffer : List ℕ) (used : ℕ) → ValidDocument s buffer used
       → (list second : List ℕ) (es : List Request) → splitList list ≡ edits es → length buffer ≤ length second
       → (o : GroupOutcome) → PerformsGroup table buffer used list second o
-      → (c : Answer) → Checks table (o .buffer) (o .used) c
-      → (c .0 ≡ 0) × ((l : List Step) → Runs calls table (o .buffer) (o .used) l → EachRight s (o .buffer) (o .used) l)
+      → (counts : List ℤ) (c : Answer × List ℤ) → Checks table (o .buffer) (o .used) counts c
+      → (c .0 .0 ≡ 0) × TrueBeside s (o .buffer) (o .used) (c .1)
+      × ((l : List Step) → Runs calls table (o .buffer) (o .used) (c .1) l → EachRight s (o .buffer) (o .used) (c .1) l)
 
-  -- a group of one edit is that edit, with room for its inverse
+  -- a group of one edit is that edit, with room for its inverse and true counts
   abbrev pub GroupOfOne : Type 0
   GroupOfOne = (s : Schema) (table : List ℕ) → Translated calls s table
       → (buffer : List ℕ) (used : ℕ) → ValidDocument s buffer used
       → (list second : List ℕ) (q : Request) → splitList list ≡ edits (q ∷ []) → length buffer ≤ length second
       → (o : GroupOutcome) → PerformsGroup table buffer used list second o
-      → (lent : List ℕ) (u : Outcome) → Performs table buffer used q lent u → needs q (take used buffer) ≤ length lent
+      → (lent : List ℕ) (counts : List ℤ) → TrueBeside s buffer used counts → (u : Outcome) → Performs table buffer used q lent counts u → needs q (take used buffer) ≤ length lent
       → SameAs o u

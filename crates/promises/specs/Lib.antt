@@ -21,6 +21,9 @@ pub mod Undone
 -- Item 6: what is promised, and its proofs
 pub mod Lists
 pub mod Listed
+-- Item 7: what is promised, and its proofs
+pub mod Counts
+pub mod Counted
 -- Item 8: what is promised
 pub mod Fixed
 -- Item 9: what is promised, and its proofs
@@ -34,6 +37,7 @@ pub mod Theorems
 pub mod DtdTheorems
 pub mod UndoTheorems
 pub mod ListTheorems
+pub mod CountTheorems
 pub mod FixedTheorems
 pub mod GroupTheorems
 pub mod Example

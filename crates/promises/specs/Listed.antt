@@ -8,6 +8,7 @@ use native.Mathlib.Omega.{arith}
 use native.Mathlib.Nat.{zero-add, add-zero, add-suc, suc-add}
 use borrow.Author.Tests.{eqb-true, eqb-false, le-leb}
 use lib.Dec.{eqb, leb}
+use lib.IntN.{ℤ}
 use lib.ListN.{length, take, length-take, length-replicate}
 use Rattle.paper.specs.Basics.{mostBack}
 use Rattle.paper.specs.Schema.{Schema}
@@ -16,7 +17,7 @@ use Rattle.paper.specs.Table.{proper}
 use Rattle.paper.specs.Rules.{Rules, ofTable}
 use Rattle.paper.specs.Validity.{ValidDocument}
 use Rattle.paper.specs.Back.{needs}
-use Rattle.paper.specs.Edits.{Request, Outcome, Edited, refused, done, outcome, formFault, orNext, sizeFault, editing, editBy, edit}
+use Rattle.paper.specs.Edits.{Request, Outcome, Edited, refused, done, outcome, formFault, orNext, sizeFault, limitFault, editing, editBy, edit}
 use Rattle.paper.specs.Lists as paper
 use Rattle.paper.specs.Lists.{Split, fault, edits, splitList, listNumbers, Listed, runList, lentWith, alone, nextEdit, numberOf, editList}
 use Rattle.paper.specs.Program.{second}
@@ -28,7 +29,7 @@ use Rattle.list_laws.specs.Singles.{singles-done}
 use Rattle.list_laws.specs.Listed.{singles as first-done, list-refused, list-is-singles, done-stands}
 use Rattle.answer_laws.specs.Edit.{edit-answers}
 use Rattle.promises.specs.Calls.{papers}
-use Rattle.promises.specs.Right.{Kept, Step, EachRight}
+use Rattle.promises.specs.Right.{Kept, TrueBeside, Step, EachRight}
 use Rattle.promises.specs.Statements.{Runs}
 use Rattle.promises.specs.Undo.{Roomy}
 use Rattle.promises.specs.Always.{edit-keeps}
@@ -50,13 +51,13 @@ pub determinate : ListDeterminate papers
 determinate i o p a b = a ∙ sym b
 
 pub faults : ListFaults papers
-faults table buffer used list o p =
-    (λ b. p ∙ list-refused table buffer used list 4 (four-exactly list .1 b), λ b. p ∙ list-refused table buffer used list 5 (five-exactly list .1 b))
+faults table buffer used list counts o p =
+    (λ b. p ∙ list-refused table buffer used counts list 4 (four-exactly list .1 b), λ b. p ∙ list-refused table buffer used counts list 5 (five-exactly list .1 b))
 
 -- ---- the answers
 
 next-answers : (table : List ℕ) (o : Outcome) (q : Request) → Answers editAnswers (nextEdit table o q .number) (nextEdit table o q .place)
-next-answers table o q = edit-answers table (o .buffer) (o .used) q second (edit table (o .buffer) (o .used) q second) refl
+next-answers table o q = edit-answers table (o .buffer) (o .used) q second (o .counts) (edit table (o .buffer) (o .used) q second (o .counts)) refl
 
 run-answers : (table : List ℕ) (es : List Request) (k : ℕ) (o : Outcome) → Answers editAnswers (o .number) (o .place)
     → let x : Listed Outcome = runList (nextEdit table) numberOf k o es in Answers editAnswers (x .last .number) (x .last .place)
@@ -71,11 +72,11 @@ run-answers table (q ∷ es) k o a = go (eqb (nextEdit table o q .number) 0) (ru
 
 pub answers : ListAnswers papers
 unfolding editList
-answers table buffer used list o p = rw p (go (splitList list) refl)
+answers table buffer used list counts o p = rw p (go (splitList list) refl)
   where
     go : (x : Split) → splitList list ≡ x
-        → let y : Listed Outcome = paper.listed (nextEdit table) numberOf (lentWith buffer used) x in Answers editAnswers (y .last .number) (y .last .place)
-    go (edits es) e = run-answers table es 0 (lentWith buffer used 0) (record { one-of = tt; no-place = λ n. refl })
+        → let y : Listed Outcome = paper.listed (nextEdit table) numberOf (lentWith buffer used counts) x in Answers editAnswers (y .last .number) (y .last .place)
+    go (edits es) e = run-answers table es 0 (lentWith buffer used counts 0) (record { one-of = tt; no-place = λ n. refl })
     go (fault n) e = elim (four-or-five list n e) [
       | inl f ↦ rw f (record { one-of = tt; no-place = λ n. refl })
       | inr f ↦ rw f (record { one-of = tt; no-place = λ n. refl })
@@ -83,7 +84,7 @@ answers table buffer used list o p = rw p (go (splitList list) refl)
 
 -- ---- a second buffer with room plays no part
 
-module _ (table buffer : List ℕ) (used : ℕ) (q : Request) where
+module _ (table buffer : List ℕ) (used : ℕ) (q : Request) (counts : List ℤ) where
   abbrev doc : List ℕ
   doc = take used buffer
 
@@ -97,24 +98,24 @@ module _ (table buffer : List ℕ) (used : ℕ) (q : Request) where
           rw (le-leb (needs q doc) (length lent) h, le-leb (needs q doc) mostBack (omega arith))
       go (suc k) e = refl
 
-  alone-same : (lent : List ℕ) (x : Edited) → alone (outcome buffer used lent x) ≡ alone (outcome buffer used second x)
+  alone-same : (lent : List ℕ) (x : Edited) → alone (outcome buffer used lent counts x) ≡ alone (outcome buffer used second counts x)
   alone-same lent (refused n p) = refl
   alone-same lent (done m) = refl
 
-  by-same : (R : Rules) (lent : List ℕ) → needs q doc ≤ length lent → editBy R buffer used q lent ≡ editBy R buffer used q second
-  unfolding editBy editing
+  by-same : (R : Rules) (lent : List ℕ) → needs q doc ≤ length lent → editBy R buffer used q lent counts ≡ editBy R buffer used q second counts
+  unfolding editBy editing limitFault
   by-same R lent h = go (shapeOf buffer used) refl
     where
       go : (b : Bool) → shapeOf buffer used ≡ b
-          → cond b (editing R (length buffer) (length lent) q doc) (refused 4 0) ≡ cond b (editing R (length buffer) (length second) q doc) (refused 4 0)
+          → cond b (editing R (length buffer) (length lent) q doc counts) (refused 4 0) ≡ cond b (editing R (length buffer) (length second) q doc counts) (refused 4 0)
       go true e = rw (size-same lent e h, length-replicate {A = ℕ} mostBack 0)
       go false e = refl
 
-  pub lent-same : (lent : List ℕ) → needs q doc ≤ length lent → alone (edit table buffer used q lent) ≡ nextEdit table (lentWith buffer used 0) q
+  pub lent-same : (lent : List ℕ) → needs q doc ≤ length lent → alone (edit table buffer used q lent counts) ≡ nextEdit table (lentWith buffer used counts 0) q
   unfolding edit
   lent-same lent h =
-      alone-same lent (cond (proper table) (editBy (ofTable table) buffer used q lent) (refused 13 0))
-      ∙ ap (λ x. alone (outcome buffer used second (cond (proper table) x (refused 13 0)))) (by-same (ofTable table) lent h)
+      alone-same lent (cond (proper table) (editBy (ofTable table) buffer used q lent counts) (refused 13 0))
+      ∙ ap (λ x. alone (outcome buffer used second counts (cond (proper table) x (refused 13 0)))) (by-same (ofTable table) lent h)
 
 -- ---- the single calls
 
@@ -123,9 +124,9 @@ abbrev Alike : (table : List ℕ) → Outcome → List Step → Type 0
 Alike table o [] = Unit {0}
 Alike table o (x ∷ l) = (alone (x .came) ≡ nextEdit table o (x .asked)) × Alike table (x .came) l
 
-alike-run : (table : List ℕ) (l : List Step) (o : Outcome) → Runs papers table (o .buffer) (o .used) l → Roomy (o .buffer) (o .used) l → Alike table o l
+alike-run : (table : List ℕ) (l : List Step) (o : Outcome) → Runs papers table (o .buffer) (o .used) (o .counts) l → Roomy (o .buffer) (o .used) l → Alike table o l
 alike-run table [] o r m = tt
-alike-run table (x ∷ l) o (p, r) (h, m) = (ap alone p ∙ lent-same table (o .buffer) (o .used) (x .asked) (x .lent) h, alike-run table l (x .came) r m)
+alike-run table (x ∷ l) o (p, r) (h, m) = (ap alone p ∙ lent-same table (o .buffer) (o .used) (x .asked) (o .counts) (x .lent) h, alike-run table l (x .came) r m)
 
 module _ (table : List ℕ) where
   abbrev runs : ℕ → Outcome → List Request → Listed Outcome
@@ -149,71 +150,71 @@ module _ (table : List ℕ) where
           rw (sr (eqb-false (x .came .number) 0 f)) (ap (λ n. record { last = alone (x .came); done = n }) (sym (add-zero k)))
 
   -- a list comes to what such calls come to
-  by-steps : (buffer : List ℕ) (used : ℕ) (list : List ℕ) (es : List Request) → IsList es list → (l : List Step) → Steps es l → Alike table (lentWith buffer used 0) l
-      → AsSingles buffer used (editList table buffer used list) l
+  by-steps : (buffer : List ℕ) (used : ℕ) (counts : List ℤ) (list : List ℕ) (es : List Request) → IsList es list → (l : List Step) → Steps es l → Alike table (lentWith buffer used counts 0) l
+      → AsSingles buffer used counts (editList table buffer used list counts) l
   unfolding editList
-  by-steps buffer used list es i l s a =
-      let e = run-steps es l 0 (lentWith buffer used 0) s a in
+  by-steps buffer used counts list es i l s a =
+      let e = run-steps es l 0 (lentWith buffer used counts 0) s a in
       rw (split-exactly list es .1 i, e) (refl, zero-add (doneIn l))
 
 pub singles : ListIsSingles papers
-singles table buffer used list o p es i l r s m =
-    rw p (by-steps table buffer used list es i l s (alike-run table l (lentWith buffer used 0) r m))
+singles table buffer used list counts o p es i l r s m =
+    rw p (by-steps table buffer used counts list es i l s (alike-run table l (lentWith buffer used counts 0) r m))
 
 -- ---- what was done before stands
 
-next-keeps : (table : List ℕ) (o : Outcome) (q : Request) → nextEdit table o q .number ≢ 0 → Kept (o .buffer) (o .used) [] (nextEdit table o q)
+next-keeps : (table : List ℕ) (o : Outcome) (q : Request) → nextEdit table o q .number ≢ 0 → Kept (o .buffer) (o .used) [] (o .counts) (nextEdit table o q)
 next-keeps table o q n =
-    let (u, c, k, b, w) = edit-keeps table (o .buffer) (o .used) q second (edit table (o .buffer) (o .used) q second) refl n in
-    (u, c, k, b, refl)
+    let (u, c, k, b, w, m) = edit-keeps table (o .buffer) (o .used) q second (o .counts) (edit table (o .buffer) (o .used) q second (o .counts)) refl n in
+    (u, c, k, b, refl, m)
 
 some-taken : (n : ℕ) (es : List Request) → 1 ≤ length es → 0 < n → 1 ≤ length (take n es)
 some-taken zero es h k = absurd (omega arith)
 some-taken (suc n) [] h k = h
 some-taken (suc n) (q ∷ es) h k = omega arith
 
-module _ (table buffer : List ℕ) (used : ℕ) (list : List ℕ) (es : List Request) (i : IsList es list) where
+module _ (table buffer : List ℕ) (used : ℕ) (counts : List ℤ) (list : List ℕ) (es : List Request) (i : IsList es list) where
   abbrev all : Listed Outcome
-  all = editList table buffer used list
+  all = editList table buffer used list counts
 
   module _ (n : all .last .number ≢ 0) where
-    keep : Kept (first-done table buffer used (take (all .done) es) .last .buffer) (first-done table buffer used (take (all .done) es) .last .used) [] (all .last)
-    keep = done-stands table buffer used list (λ x y. Kept (x .buffer) (x .used) [] y) (next-keeps table) es (split-exactly list es .1 i) n
+    keep : let front : Outcome = first-done table buffer used counts (take (all .done) es) .last in Kept (front .buffer) (front .used) [] (front .counts) (all .last)
+    keep = done-stands table buffer used counts list (λ x y. Kept (x .buffer) (x .used) [] (x .counts) y) (next-keeps table) es (split-exactly list es .1 i) n
 
-    none-stands : all .done ≡ 0 → Kept buffer used [] (all .last)
+    none-stands : all .done ≡ 0 → Kept buffer used [] counts (all .last)
     none-stands z = let k : take (all .done) es ≡ [] = ap (λ n. take n es) z in rw k at keep
 
-    own : (first-done table buffer used (take (all .done) es) .last .number ≡ 0) × (first-done table buffer used (take (all .done) es) .done ≡ all .done)
-    own = rw (list-is-singles table buffer used list es (split-exactly list es .1 i)) (singles-done (nextEdit table) numberOf es (lentWith buffer used 0) refl)
+    own : (first-done table buffer used counts (take (all .done) es) .last .number ≡ 0) × (first-done table buffer used counts (take (all .done) es) .done ≡ all .done)
+    own = rw (list-is-singles table buffer used counts list es (split-exactly list es .1 i)) (singles-done (nextEdit table) numberOf es (lentWith buffer used counts 0) refl)
 
-    some-stand : (p : Listed Outcome) → p ≡ editList table buffer used (listNumbers (take (all .done) es)) → 0 < all .done
-        → (p .last .number ≡ 0) × (p .done ≡ all .done) × Kept (p .last .buffer) (p .last .used) [] (all .last)
+    some-stand : (p : Listed Outcome) → p ≡ editList table buffer used (listNumbers (take (all .done) es)) counts → 0 < all .done
+        → (p .last .number ≡ 0) × (p .done ≡ all .done) × Kept (p .last .buffer) (p .last .used) [] (p .last .counts) (all .last)
     some-stand p e h =
         let front : List Request = take (all .done) es in
         let is : splitList (listNumbers front) ≡ edits front =
         split-exactly (listNumbers front) front .1 (refl, some-taken (all .done) es (i .1) h, omega (arith, length-take (all .done) es, i .2)) in
-        rw (e ∙ list-is-singles table buffer used (listNumbers front) front is) (own .0, own .1, keep)
+        rw (e ∙ list-is-singles table buffer used counts (listNumbers front) front is) (own .0, own .1, keep)
 
 pub stands : ListStands papers
-stands table buffer used list o p es i = rw p (λ n. (none-stands table buffer used list es i n, some-stand table buffer used list es i n))
+stands table buffer used list counts o p es i = rw p (λ n. (none-stands table buffer used counts list es i n, some-stand table buffer used counts list es i n))
 
 -- ---- demand 3
 
 module _ (table : List ℕ) where
   -- the single calls, each lent a second buffer in which any inverse has room
   abbrev step : Outcome → Request → Step
-  step o q = record { asked = q; lent = second; came = edit table (o .buffer) (o .used) q second }
+  step o q = record { asked = q; lent = second; came = edit table (o .buffer) (o .used) q second (o .counts) }
 
   abbrev stepsOf : Outcome → List Request → List Step
   stepsOf o [] = []
   stepsOf o (q ∷ es) = step o q ∷ cond (eqb (step o q .came .number) 0) (stepsOf (step o q .came) es) []
 
-  steps-run : (es : List Request) (o : Outcome) → Runs papers table (o .buffer) (o .used) (stepsOf o es)
+  steps-run : (es : List Request) (o : Outcome) → Runs papers table (o .buffer) (o .used) (o .counts) (stepsOf o es)
   steps-run [] o = tt
   steps-run (q ∷ es) o = (refl, go (eqb (step o q .came .number) 0) (steps-run es (step o q .came)))
     where
-      go : (b : Bool) → Runs papers table (step o q .came .buffer) (step o q .came .used) (stepsOf (step o q .came) es)
-          → Runs papers table (step o q .came .buffer) (step o q .came .used) (cond b (stepsOf (step o q .came) es) [])
+      go : (b : Bool) → Runs papers table (step o q .came .buffer) (step o q .came .used) (step o q .came .counts) (stepsOf (step o q .came) es)
+          → Runs papers table (step o q .came .buffer) (step o q .came .used) (step o q .came .counts) (cond b (stepsOf (step o q .came) es) [])
       go true r = r
       go false r = tt
 
@@ -233,17 +234,21 @@ module _ (table : List ℕ) where
       go true a = a
       go false a = tt
 
-last-valid : (s : Schema) (l : List Step) (o : Outcome) → ValidDocument s (o .buffer) (o .used) → EachRight s (o .buffer) (o .used) l
-    → ValidDocument s (lastOf o l .buffer) (lastOf o l .used)
-last-valid s [] o v r = v
-last-valid s (x ∷ l) o v (h, r) = last-valid s l (x .came) (h .valid-after) r
+last-valid : (s : Schema) (l : List Step) (o : Outcome) → ValidDocument s (o .buffer) (o .used) → TrueBeside s (o .buffer) (o .used) (o .counts)
+    → EachRight s (o .buffer) (o .used) (o .counts) l
+    → let u : Outcome = lastOf o l in ValidDocument s (u .buffer) (u .used) × TrueBeside s (u .buffer) (u .used) (u .counts)
+last-valid s [] o v c r = (v, c)
+last-valid s (x ∷ l) o v c (h, r) = last-valid s l (x .came) (h .valid-after) (h .true-after) r
 
-pub right : (s : Schema) (table buffer : List ℕ) (used : ℕ) → ValidDocument s buffer used → ((l : List Step) → Runs papers table buffer used l → EachRight s buffer used l)
-    → (list : List ℕ) (o : Listed Outcome) → o ≡ editList table buffer used list → (es : List Request) → IsList es list
-    → ((l : List Step) × Steps es l × EachRight s buffer used l × AsSingles buffer used o l) × ValidDocument s (o .last .buffer) (o .last .used)
-right s table buffer used v each list o p es i =
-    let lent : Outcome = lentWith buffer used 0 in
+pub right : (s : Schema) (table buffer : List ℕ) (used : ℕ) → ValidDocument s buffer used → (counts : List ℤ) → TrueBeside s buffer used counts
+    → ((l : List Step) → Runs papers table buffer used counts l → EachRight s buffer used counts l)
+    → (list : List ℕ) (o : Listed Outcome) → o ≡ editList table buffer used list counts → (es : List Request) → IsList es list
+    → ((l : List Step) × Steps es l × EachRight s buffer used counts l × AsSingles buffer used counts o l) × ValidDocument s (o .last .buffer) (o .last .used)
+    × TrueBeside s (o .last .buffer) (o .last .used) (o .last .counts)
+right s table buffer used v counts c each list o p es i =
+    let lent : Outcome = lentWith buffer used counts 0 in
     let l : List Step = stepsOf table lent es in
-    let r : EachRight s buffer used l = each l (steps-run table es lent) in
-    let a : AsSingles buffer used o l = rw p (by-steps table buffer used list es i l (steps-are table es lent) (steps-alike table es lent)) in
-    ((l, steps-are table es lent, r, a), rw (a .0) (last-valid s l lent v r))
+    let r : EachRight s buffer used counts l = each l (steps-run table es lent) in
+    let a : AsSingles buffer used counts o l = rw p (by-steps table buffer used counts list es i l (steps-are table es lent) (steps-alike table es lent)) in
+    let (w, d) = last-valid s l lent v c r in
+    ((l, steps-are table es lent, r, a), rw (a .0) w, rw (a .0) d)

@@ -6,10 +6,11 @@ use mathlib.Core.List.{List, [], _∷_, _++_}
 use Prim.Native.Nat.{ℕ, zero, suc, _+_}
 use native.Mathlib.Omega.{arith}
 use lib.Dec.{leb, eqb, ltb}
+use lib.IntN.{ℤ}
 use lib.ListN.{length, take}
 use Rattle.paper.specs.declared.Tok.{Tok}
 use Rattle.paper.specs.declared.Tok.the-variants.{Start, End, Text, Attr, Value, Bad}
-use Rattle.paper.specs.Basics.{between}
+use Rattle.paper.specs.Basics.{between, all}
 use Rattle.paper.specs.Tokens.{toks, heads, kids, childAt}
 use Rattle.paper.specs.Shape.{shapeOf}
 use Rattle.paper.specs.Schema.{Schema}
@@ -17,7 +18,8 @@ use Rattle.paper.specs.Rules.{Rules, ofSchema, ofTable}
 use Rattle.paper.specs.Judgement.{Answer, none-found, orElse, before, attributesGood, contentGood, contentBegun, stopAfter, elementFault, faultAt, first, placeOf, rootFault, keyFault, judge, whole, checking}
 use Rattle.paper.specs.Validity.{PointsAt}
 use Rattle.paper.specs.Back.{needs}
-use Rattle.paper.specs.Edits.{Request, Outcome, refused, done, outcome, edited, touchedBy, made, goodPiece, goodPlace, fits, formFault, orNext, sizeFault, answered, editing, editBy}
+use Rattle.paper.specs.Counts.{moved, countGood}
+use Rattle.paper.specs.Edits.{Request, Outcome, refused, done, outcome, edited, touchedBy, made, goodPiece, goodPlace, fits, formFault, orNext, sizeFault, limitFault, answered, editing, editBy}
 use Rattle.judge_laws.specs.Contents.{content-iff}
 use Rattle.judge_laws.specs.Begun.{stops-means}
 use Rattle.judge_laws.specs.ByRun.{table-stops}
@@ -165,7 +167,7 @@ module _ (s : Schema) where
       go true e = points whole (toks (take used buffer)) (o .1) (sym e ∙ ap (λ k. (k, o .1)) n)
       go false e = let z : 4 ≡ o .0 = sym (ap (λ (a : Answer). a .0) e) in absurd (omega arith)
 
-  module _ (buffer : List ℕ) (used : ℕ) (q : Request) (second : List ℕ) (o : Outcome) (n : o .number ≡ 9) where
+  module _ (buffer : List ℕ) (used : ℕ) (q : Request) (second : List ℕ) (counts : List ℤ) (o : Outcome) (n : o .number ≡ 9) where
     abbrev Here : Type 0
     Here = PointsAt s (toks (edited q (take used buffer))) (o .place)
 
@@ -173,36 +175,39 @@ module _ (s : Schema) where
     judged = judge (ofSchema s) (touchedBy q (take used buffer)) (toks (edited q (take used buffer)))
 
     -- a refusal of another number is none of 9
-    other : (k p : ℕ) → k ≢ 9 → o ≡ outcome buffer used second (refused k p) → Here
+    other : (k p : ℕ) → k ≢ 9 → o ≡ outcome buffer used second counts (refused k p) → Here
     other k p m e = absurd (m (sym (ap (λ (x : Outcome). x .number) e) ∙ n))
 
-    by-judge : o ≡ outcome buffer used second (answered 0 judged (made q (take used buffer))) → Here
+    by-judge : o ≡ outcome buffer used second counts (answered 0 judged (made (ofSchema s .elements) q (take used buffer) counts)) → Here
     by-judge e = go (eqb (judged .0) 0) e
       where
-        go : (b : Bool) → o ≡ outcome buffer used second (cond b (done (made q (take used buffer))) (refused (judged .0) (judged .1))) → Here
+        go : (b : Bool) → o ≡ outcome buffer used second counts (cond b (done (made (ofSchema s .elements) q (take used buffer) counts)) (refused (judged .0) (judged .1))) → Here
         go true e = let z : o .number ≡ 0 = ap (λ (x : Outcome). x .number) e in absurd (omega arith)
         go false e =
             points (touchedBy q (take used buffer)) (toks (edited q (take used buffer))) (o .place)
             (ap₂ (λ k p. (k, p)) (sym (ap (λ (x : Outcome). x .number) e) ∙ n) (sym (ap (λ (x : Outcome). x .place) e)))
 
-    by-form : o ≡ outcome buffer used second (editing (ofSchema s) (length buffer) (length second) q (take used buffer)) → Here
-    unfolding editing sizeFault formFault
+    by-form : o ≡ outcome buffer used second counts (editing (ofSchema s) (length buffer) (length second) q (take used buffer) counts) → Here
+    unfolding editing limitFault sizeFault formFault
     by-form e =
         go (between 1 5 (q .operation)) (goodPiece (q .operation) (toks (q .piece))) (goodPlace (q .operation) (q .place) (toks (q .piece)) (toks (take used buffer)))
-        (fits (length buffer) (edited q (take used buffer))) (leb (needs q (take used buffer)) (length second)) e
+        (fits (length buffer) (edited q (take used buffer))) (leb (needs q (take used buffer)) (length second))
+        (all countGood (moved (ofSchema s .elements) q (take used buffer) counts)) e
       where
-        go : (a b c d r : Bool) → o ≡ outcome buffer used second (answered (orNext (cond a (cond b (cond c (cond d 0 5) 6) 4) 6) (cond r 0 5)) judged (made q (take used buffer))) → Here
-        go true true true true true e = by-judge e
-        go true true true true false e = other 5 0 (λ z. omega arith) e
-        go true true true false r e = other 5 0 (λ z. omega arith) e
-        go true true false d r e = other 6 0 (λ z. omega arith) e
-        go true false c d r e = other 4 0 (λ z. omega arith) e
-        go false b c d r e = other 6 0 (λ z. omega arith) e
+        go : (a b c d r g : Bool)
+            → o ≡ outcome buffer used second counts (answered (orNext (orNext (cond a (cond b (cond c (cond d 0 5) 6) 4) 6) (cond r 0 5)) (cond g 0 15)) judged (made (ofSchema s .elements) q (take used buffer) counts)) → Here
+        go true true true true true true e = by-judge e
+        go true true true true true false e = other 15 0 (λ z. omega arith) e
+        go true true true true false g e = other 5 0 (λ z. omega arith) e
+        go true true true false r g e = other 5 0 (λ z. omega arith) e
+        go true true false d r g e = other 6 0 (λ z. omega arith) e
+        go true false c d r g e = other 4 0 (λ z. omega arith) e
+        go false b c d r g e = other 6 0 (λ z. omega arith) e
 
-    pub edit-points : o ≡ outcome buffer used second (editBy (ofSchema s) buffer used q second) → PointsAt s (toks (edited q (take used buffer))) (o .place)
+    pub edit-points : o ≡ outcome buffer used second counts (editBy (ofSchema s) buffer used q second counts) → PointsAt s (toks (edited q (take used buffer))) (o .place)
     unfolding editBy
     edit-points e = go (shapeOf buffer used) e
       where
-        go : (b : Bool) → o ≡ outcome buffer used second (cond b (editing (ofSchema s) (length buffer) (length second) q (take used buffer)) (refused 4 0)) → Here
+        go : (b : Bool) → o ≡ outcome buffer used second counts (cond b (editing (ofSchema s) (length buffer) (length second) q (take used buffer) counts) (refused 4 0)) → Here
         go true e = by-form e
         go false e = other 4 0 (λ z. omega arith) e

@@ -1,4 +1,4 @@
--- Every promise, stated: each is a type, and its proof stands in Theorems. Those of the calls are said of any ten calls, each given
+-- Every promise, stated: each is a type, and its proof stands in Theorems. Those of the calls are said of any calls, each given
 -- by the outcomes that its contract allows. Assumes nothing.
 use mathlib.Core.Path.{_≡_}
 use mathlib.Core.Logic.{_↔_, _≢_, _⊎_}
@@ -6,6 +6,7 @@ use mathlib.Core.Bool.{Bool, true}
 use mathlib.Core.List.{List, [], _∷_, _++_, map}
 use Prim.Native.Nat.{ℕ, _≤_, _<_}
 use lib.Dec.{T}
+use lib.IntN.{ℤ}
 use lib.ListN.{length, take, getD}
 use Rattle.paper.specs.declared.Tok.{Tok}
 use Rattle.paper.specs.declared.Tok.the-variants.{Start, Bad}
@@ -26,7 +27,7 @@ use Rattle.paper.specs.Validity.{ValidDocument, Points, Begun, PointsAt}
 use Rattle.paper.specs.Edits.{Request, Outcome, edited}
 use Rattle.paper.specs.Answers.{Answers, readerAnswers, writerAnswers, translatorAnswers, checkAnswers, editAnswers}
 use Rattle.promises.specs.Calls.{Calls}
-use Rattle.promises.specs.Right.{Kept, Left, Step, EachRight}
+use Rattle.promises.specs.Right.{Kept, Left, TrueBeside, Step, EachRight}
 
 -- ---- what the tests and sets of the paper mean
 
@@ -118,10 +119,10 @@ module _ (calls : Calls) where
   TranslateDeterminate = Determinate {I = List ℕ × List ℕ} (λ i. Translates (i .0) (i .1))
 
   abbrev pub CheckDeterminate : Type 0
-  CheckDeterminate = Determinate {I = List ℕ × List ℕ × ℕ} (λ i. Checks (i .0) (i .1) (i .2))
+  CheckDeterminate = Determinate {I = List ℕ × List ℕ × ℕ × List ℤ} (λ i. Checks (i .0) (i .1) (i .2) (i .3))
 
   abbrev pub EditDeterminate : Type 0
-  EditDeterminate = Determinate {I = List ℕ × List ℕ × ℕ × Request × List ℕ} (λ i. Performs (i .0) (i .1) (i .2) (i .3) (i .4))
+  EditDeterminate = Determinate {I = List ℕ × List ℕ × ℕ × Request × List ℕ × List ℤ} (λ i. Performs (i .0) (i .1) (i .2) (i .3) (i .4) (i .5))
 
   -- ---- demand 1: "Every call takes every input and answers a number of the paper."
 
@@ -135,14 +136,14 @@ module _ (calls : Calls) where
   TranslateAnswers = (file table : List ℕ) (o : ℕ × List ℕ) → Translates file table o → Answers translatorAnswers (o .0) 0
 
   abbrev pub CheckAnswers : Type 0
-  CheckAnswers = (table buffer : List ℕ) (used : ℕ) (o : Answer) → Checks table buffer used o → Answers checkAnswers (o .0) (o .1)
+  CheckAnswers = (table buffer : List ℕ) (used : ℕ) (counts : List ℤ) (o : Answer × List ℤ) → Checks table buffer used counts o → Answers checkAnswers (o .0 .0) (o .0 .1)
 
   -- "A whole check never gives 7"
   abbrev pub CheckNever7 : Type 0
-  CheckNever7 = (table buffer : List ℕ) (used : ℕ) (o : Answer) → Checks table buffer used o → o .0 ≢ 7
+  CheckNever7 = (table buffer : List ℕ) (used : ℕ) (counts : List ℤ) (o : Answer × List ℤ) → Checks table buffer used counts o → o .0 .0 ≢ 7
 
   abbrev pub EditAnswers : Type 0
-  EditAnswers = (table buffer : List ℕ) (used : ℕ) (q : Request) (second : List ℕ) (o : Outcome) → Performs table buffer used q second o → Answers editAnswers (o .number) (o .place)
+  EditAnswers = (table buffer : List ℕ) (used : ℕ) (q : Request) (second : List ℕ) (counts : List ℤ) (o : Outcome) → Performs table buffer used q second counts o → Answers editAnswers (o .number) (o .place)
 
   -- "A refused call leaves all lent memory as it was."
   abbrev pub ReadKeeps : Type 0
@@ -155,7 +156,7 @@ module _ (calls : Calls) where
   TranslateKeeps = (file table : List ℕ) (o : ℕ × List ℕ) → Translates file table o → o .0 ≢ 0 → o .1 ≡ table
 
   abbrev pub EditKeeps : Type 0
-  EditKeeps = (table buffer : List ℕ) (used : ℕ) (q : Request) (second : List ℕ) (o : Outcome) → Performs table buffer used q second o → o .number ≢ 0 → Kept buffer used second o
+  EditKeeps = (table buffer : List ℕ) (used : ℕ) (q : Request) (second : List ℕ) (counts : List ℤ) (o : Outcome) → Performs table buffer used q second counts o → o .number ≢ 0 → Kept buffer used second counts o
 
   -- ---- demand 2
 
@@ -194,32 +195,33 @@ module _ (calls : Calls) where
   -- "The whole check says valid exactly when the document is valid"
   abbrev pub CheckValid : Type 0
   CheckValid = (s : Schema) (table : List ℕ) → Translated s table
-      → (buffer : List ℕ) (used : ℕ) (o : Answer) → Checks table buffer used o
-      → (o .0 ≡ 0) ↔ ValidDocument s buffer used
+      → (buffer : List ℕ) (used : ℕ) (counts : List ℤ) (o : Answer × List ℤ) → Checks table buffer used counts o
+      → (o .0 .0 ≡ 0) ↔ ValidDocument s buffer used
 
   -- "else the first broken rule and its place": number and place are those of the judgement from the expressions
   abbrev pub CheckByExpressions : Type 0
   CheckByExpressions = (s : Schema) (table : List ℕ) → Translated s table
-      → (buffer : List ℕ) (used : ℕ) (o : Answer) → Checks table buffer used o
-      → o ≡ checking (ofSchema s) buffer used
+      → (buffer : List ℕ) (used : ℕ) (counts : List ℤ) (o : Answer × List ℤ) → Checks table buffer used counts o
+      → o .0 ≡ checking (ofSchema s) buffer used
 
   -- "Answer 9 shall give the first child or text at which no valid content can begin that way, or the element's end token if the children
   -- stop too early", by the schema's own expressions
   abbrev pub CheckPoints : Type 0
   CheckPoints = (s : Schema) (table : List ℕ) → Translated s table
-      → (buffer : List ℕ) (used : ℕ) (o : Answer) → Checks table buffer used o → o .0 ≡ 9 → PointsAt s (toks (take used buffer)) (o .1)
+      → (buffer : List ℕ) (used : ℕ) (counts : List ℤ) (o : Answer × List ℤ) → Checks table buffer used counts o → o .0 .0 ≡ 9
+      → PointsAt s (toks (take used buffer)) (o .0 .1)
 
   abbrev pub EditPoints : Type 0
   EditPoints = (s : Schema) (table : List ℕ) → Translated s table
-      → (buffer : List ℕ) (used : ℕ) (q : Request) (second : List ℕ) (o : Outcome) → Performs table buffer used q second o → o .number ≡ 9
+      → (buffer : List ℕ) (used : ℕ) (q : Request) (second : List ℕ) (counts : List ℤ) (o : Outcome) → Performs table buffer used q second counts o → o .number ≡ 9
       → PointsAt s (toks (edited q (take used buffer))) (o .place)
 
   abbrev pub EditLeaves : Type 0
-  EditLeaves = (table buffer : List ℕ) (used : ℕ) (q : Request) (second : List ℕ) (o : Outcome) → Performs table buffer used q second o → o .number ≡ 0 → Left buffer used q second o
+  EditLeaves = (table buffer : List ℕ) (used : ℕ) (q : Request) (second : List ℕ) (counts : List ℤ) (o : Outcome) → Performs table buffer used q second counts o → o .number ≡ 0 → Left (ofTable table .elements) buffer used q second counts o
 
   -- .. and on the tree: the tree that the document was, and the one that it is now, are as the edit rules say; so are the children looked at
   abbrev pub EditIsTreeEdit : Type 0
-  EditIsTreeEdit = (table buffer : List ℕ) (used : ℕ) (q : Request) (second : List ℕ) (o : Outcome) → Performs table buffer used q second o → o .number ≡ 0
+  EditIsTreeEdit = (table buffer : List ℕ) (used : ℕ) (q : Request) (second : List ℕ) (counts : List ℤ) (o : Outcome) → Performs table buffer used q second counts o → o .number ≡ 0
       → (old : Forest) × (new : Forest) × (toks (take used buffer) ≡ flat old []) × (t : TreeEdit q old new)
       × (toks (take (o .used) (o .buffer)) ≡ flat new []) × (o .children ≡ looked t)
 
@@ -252,12 +254,15 @@ module _ (calls : Calls) where
   TableReads = (s : Schema) (table : List ℕ) → Translated s table → ofTable table ≡ ofSchema s
 
   -- A run of edits: each is made on what the one before left.
-  abbrev pub Runs : (table buffer : List ℕ) → (used : ℕ) → List Step → Type 0
-  Runs table buffer used [] = Unit {0}
-  Runs table buffer used (x ∷ l) = Performs table buffer used (x .asked) (x .lent) (x .came) × Runs table (x .came .buffer) (x .came .used) l
+  abbrev pub Runs : (table buffer : List ℕ) → (used : ℕ) → (counts : List ℤ) → List Step → Type 0
+  Runs table buffer used counts [] = Unit {0}
+  Runs table buffer used counts (x ∷ l) =
+      Performs table buffer used (x .asked) (x .lent) counts (x .came) × Runs table (x .came .buffer) (x .came .used) (x .came .counts) l
 
-  -- "From any document valid by the schema's own expressions, through any run of edits by the table, each edit [..]"
+  -- "From any document valid by the schema's own expressions, through any run of edits by the table, each edit [..]". Item 7: demand 3 reads
+  -- "true counts as a premise"
   abbrev pub Demand3 : Type 0
   Demand3 = (s : Schema) (table : List ℕ) → Translated s table
       → (buffer : List ℕ) (used : ℕ) → ValidDocument s buffer used
-      → (l : List Step) → Runs table buffer used l → EachRight s buffer used l
+      → (counts : List ℤ) → TrueBeside s buffer used counts
+      → (l : List Step) → Runs table buffer used counts l → EachRight s buffer used counts l

@@ -1,14 +1,15 @@
--- Every promise that is proved, but for those of items 2, 4 and 6 (UndoTheorems, DtdTheorems, ListTheorems): a line for each statement, with the proof that it cites. Those of
--- the calls are proved of any ten that allow no outcome but the paper's. Assumes nothing.
-use mathlib.Core.Path.{_≡_, _∙_}
+-- Every promise that is proved, but for those of items 2, 4, 6, 7 and 9 (UndoTheorems, DtdTheorems, ListTheorems, CountTheorems, GroupTheorems): a line for each statement, with the proof that it cites. Those of
+-- the calls are proved of any that allow no outcome but the paper's. Assumes nothing.
+use mathlib.Core.Path.{_≡_, ap, _∙_}
 use mathlib.Core.Logic.{_↔_}
 use mathlib.Core.Bool.{true}
 use mathlib.Core.List.{List, [], _∷_}
 use Prim.Native.Nat.{ℕ}
+use lib.IntN.{ℤ}
 use Rattle.paper.specs.Schema.{Schema}
 use Rattle.paper.specs.SchemaWritten.{formed}
 use Rattle.paper.specs.Rules.{ofSchema}
-use Rattle.paper.specs.Judgement.{checking}
+use Rattle.paper.specs.Judgement.{Answer, checking}
 use Rattle.paper.specs.Validity.{ValidDocument}
 use Rattle.content_laws.specs.Theorems as content
 use Rattle.shape_laws.specs.Tree.{shape-is-tree}
@@ -104,10 +105,10 @@ module _ (calls : Calls) (is : Faithful calls) where
   translate-determinate i o p a b = always.translate-determinate i o p (is .translates _ _ o a) (is .translates _ _ p b)
 
   pub check-determinate : promised.CheckDeterminate calls
-  check-determinate i o p a b = always.check-determinate i o p (is .checks _ _ _ o a) (is .checks _ _ _ p b)
+  check-determinate i o p a b = always.check-determinate i o p (is .checks _ _ _ _ o a) (is .checks _ _ _ _ p b)
 
   pub edit-determinate : promised.EditDeterminate calls
-  edit-determinate i o p a b = always.edit-determinate i o p (is .performs _ _ _ _ _ o a) (is .performs _ _ _ _ _ p b)
+  edit-determinate i o p a b = always.edit-determinate i o p (is .performs _ _ _ _ _ _ o a) (is .performs _ _ _ _ _ _ p b)
 
   -- ---- demand 1
 
@@ -121,13 +122,13 @@ module _ (calls : Calls) (is : Faithful calls) where
   translate-answers file table o t = translator.translate-answers file table o (is .translates file table o t)
 
   pub check-answers : promised.CheckAnswers calls
-  check-answers table buffer used o c = check.check-answers table buffer used o (is .checks table buffer used o c)
+  check-answers table buffer used counts o c = check.check-answers table buffer used (o .0) (ap (λ (x : Answer × List ℤ). x .0) (is .checks table buffer used counts o c))
 
   pub check-never-7 : promised.CheckNever7 calls
-  check-never-7 table buffer used o c = check.check-never-7 table buffer used o (is .checks table buffer used o c)
+  check-never-7 table buffer used counts o c = check.check-never-7 table buffer used (o .0) (ap (λ (x : Answer × List ℤ). x .0) (is .checks table buffer used counts o c))
 
   pub edit-answers : promised.EditAnswers calls
-  edit-answers table buffer used q second o p = edit.edit-answers table buffer used q second o (is .performs table buffer used q second o p)
+  edit-answers table buffer used q second counts o p = edit.edit-answers table buffer used q second counts o (is .performs table buffer used q second counts o p)
 
   pub read-keeps : promised.ReadKeeps calls
   read-keeps file buffer o r = always.read-keeps file buffer o (is .reads file buffer o r)
@@ -139,7 +140,7 @@ module _ (calls : Calls) (is : Faithful calls) where
   translate-keeps file table o t = always.translate-keeps file table o (is .translates file table o t)
 
   pub edit-keeps : promised.EditKeeps calls
-  edit-keeps table buffer used q second o p = always.edit-keeps table buffer used q second o (is .performs table buffer used q second o p)
+  edit-keeps table buffer used q second counts o p = always.edit-keeps table buffer used q second counts o (is .performs table buffer used q second counts o p)
 
   -- ---- demand 2
 
@@ -171,25 +172,26 @@ module _ (calls : Calls) (is : Faithful calls) where
   }
 
   pub check-by-expressions : promised.CheckByExpressions calls
-  check-by-expressions s table t buffer used o c =
-      by-table.check-judged s table (by-paper s table t) buffer used o (is .checks table buffer used o c)
+  check-by-expressions s table t buffer used counts o c =
+      by-table.check-judged s table (by-paper s table t) buffer used counts o (is .checks table buffer used counts o c)
 
   pub check-valid : promised.CheckValid calls
-  check-valid s table t buffer used o c =
-      rw (check-by-expressions s table t buffer used o c) (valid-iff s table (by-paper s table t) buffer used)
+  check-valid s table t buffer used counts o c =
+      rw (check-by-expressions s table t buffer used counts o c) (valid-iff s table (by-paper s table t) buffer used)
 
   pub check-points : promised.CheckPoints calls
-  check-points s table t buffer used o c = pointing.check-points s buffer used o (check-by-expressions s table t buffer used o c)
+  check-points s table t buffer used counts o c = pointing.check-points s buffer used (o .0) (check-by-expressions s table t buffer used counts o c)
 
   pub edit-points : promised.EditPoints calls
-  edit-points s table t buffer used q second o p n =
-      pointing.edit-points s buffer used q second o n (is .performs table buffer used q second o p ∙ by-table.edit-judged s table (by-paper s table t) buffer used q second)
+  edit-points s table t buffer used q second counts o p n =
+      pointing.edit-points s buffer used q second counts o n
+      (is .performs table buffer used q second counts o p ∙ by-table.edit-judged s table (by-paper s table t) buffer used q second counts)
 
   pub edit-leaves : promised.EditLeaves calls
-  edit-leaves table buffer used q second o p = always.edit-leaves table buffer used q second o (is .performs table buffer used q second o p)
+  edit-leaves table buffer used q second counts o p = always.edit-leaves table buffer used q second counts o (is .performs table buffer used q second counts o p)
 
   pub edit-on-tree : promised.EditIsTreeEdit calls
-  edit-on-tree table buffer used q second o p = on-tree.edit-on-tree table buffer used q second o (is .performs table buffer used q second o p)
+  edit-on-tree table buffer used q second counts o p = on-tree.edit-on-tree table buffer used q second counts o (is .performs table buffer used q second counts o p)
 
   -- ---- demand 3
 
@@ -212,20 +214,20 @@ module _ (calls : Calls) (is : Faithful calls) where
   table-reads s table t = by-table.table-reads s table (by-paper s table t)
 
   -- a run of the calls is one of the paper's
-  pub runs-by-paper : (table buffer : List ℕ) (used : ℕ) (l : List Step) → Runs calls table buffer used l → Runs papers table buffer used l
-  runs-by-paper table buffer used [] r = tt
-  runs-by-paper table buffer used (x ∷ l) (p, r) =
-      (is .performs table buffer used (x .asked) (x .lent) (x .came) p, runs-by-paper table (x .came .buffer) (x .came .used) l r)
+  pub runs-by-paper : (table buffer : List ℕ) (used : ℕ) (counts : List ℤ) (l : List Step) → Runs calls table buffer used counts l → Runs papers table buffer used counts l
+  runs-by-paper table buffer used counts [] r = tt
+  runs-by-paper table buffer used counts (x ∷ l) (p, r) =
+      (is .performs table buffer used (x .asked) (x .lent) counts (x .came) p, runs-by-paper table (x .came .buffer) (x .came .used) (x .came .counts) l r)
 
   pub demand-3 : promised.Demand3 calls
-  demand-3 s table t buffer used v l r =
+  demand-3 s table t buffer used v counts c l r =
       let u = by-paper s table t in
-      run-right s (valid-iff s table u) table u buffer used v l (runs-by-paper table buffer used l r)
+      run-right s (valid-iff s table u) table u buffer used v counts c l (runs-by-paper table buffer used counts l r)
 
   -- ---- item 10
 
   pub edit-cost-bounded : cost.EditCostBounded calls
-  edit-cost-bounded table buffer used q second o p = costing.bounded table buffer used q second o (is .performs table buffer used q second o p)
+  edit-cost-bounded table buffer used q second counts o p = costing.bounded table buffer used q second counts o (is .performs table buffer used q second counts o p)
 
   -- ---- item 12
 
