@@ -12,9 +12,11 @@ use Rattle.promises.specs.Cost as cost
 use Rattle.promises.specs.Theorems as proved
 use Rattle.promises.specs.UndoTheorems as undone
 use Rattle.promises.specs.ListTheorems as listed
+use Rattle.promises.specs.Counts as counts
+use Rattle.promises.specs.CountTheorems as counted
 use Rattle.promises.specs.GroupTheorems as grouped
 use Rattle.promises.specs.DtdTheorems as texts
-use Rattle.shrikemuff.proofs.Contracts.{shrike-read, shrike-write, shrike-translate, shrike-check, shrike-edit, shrike-list, shrike-group, shrike-compare}
+use Rattle.shrikemuff.proofs.Contracts.{shrike-read, shrike-write, shrike-translate, shrike-check, shrike-edit, shrike-elements, shrike-list, shrike-group, shrike-compare}
 use Rattle.shrikemuff.proofs.Contracts.{shrike-import, shrike-names, shrike-import-spot}
 use Rattle.shrikemuff.proofs.Contracts as contracts
 
@@ -24,9 +26,10 @@ shrikes = record {
   Reads = λ file buffer. Allows shrike-read (file, buffer);
   Writes = λ tokens buffer. Allows shrike-write (tokens, buffer);
   Translates = λ file table. Allows shrike-translate (file, table);
-  Checks = λ table buffer used. Allows shrike-check (table, buffer, used);
-  Performs = λ table buffer used q second. Allows shrike-edit (table, buffer, used, q, second);
-  PerformsList = λ table buffer used list. Allows shrike-list (table, buffer, used, list);
+  Checks = λ table buffer used counts. Allows shrike-check (table, buffer, used, counts);
+  Performs = λ table buffer used q second counts. Allows shrike-edit (table, buffer, used, q, second, counts);
+  Tells = λ table counts name. Allows shrike-elements (table, counts, name);
+  PerformsList = λ table buffer used list counts. Allows shrike-list (table, buffer, used, list, counts);
   PerformsGroup = λ table buffer used list second. Allows shrike-group (table, buffer, used, list, second);
   Compares = λ old new e buffer. Allows shrike-compare (old, new, e, buffer);
   Imports = λ text buffer. Allows shrike-import (text, buffer);
@@ -39,9 +42,10 @@ faithful = record {
   reads = λ file buffer. contracts.reads (file, buffer);
   writes = λ tokens buffer. contracts.writes (tokens, buffer);
   translates = λ file table. contracts.translates (file, table);
-  checks = λ table buffer used. contracts.checks (table, buffer, used);
-  performs = λ table buffer used q second. contracts.performs (table, buffer, used, q, second);
-  performs-list = λ table buffer used list. contracts.performs-list (table, buffer, used, list);
+  checks = λ table buffer used counts. contracts.checks (table, buffer, used, counts);
+  performs = λ table buffer used q second counts. contracts.performs (table, buffer, used, q, second, counts);
+  tells = λ table counts name. contracts.tells (table, counts, name);
+  performs-list = λ table buffer used list counts. contracts.performs-list (table, buffer, used, list, counts);
   performs-group = λ table buffer used list second. contracts.performs-group (table, buffer, used, list, second);
   compares = λ old new e buffer. contracts.compares (old, new, e, buffer);
   imports = λ text buffer. contracts.imports (text, buffer);
@@ -303,3 +307,29 @@ compare-by-expressions = proved.compare-by-expressions shrikes faithful
 
 pub compare-means : inclusion.CompareMeans shrikes
 compare-means = proved.compare-means shrikes faithful
+
+-- ---- item 7
+
+pub edit-true : counts.EditTrue shrikes
+edit-true = counted.edit-true shrikes faithful
+
+pub list-true : counts.ListTrue shrikes
+list-true = counted.list-true shrikes faithful
+
+pub edit-fifteen : counts.EditFifteen shrikes
+edit-fifteen = counted.edit-fifteen shrikes faithful
+
+pub edit-never-15 : counts.EditNever15 shrikes
+edit-never-15 = counted.edit-never-15 shrikes faithful
+
+pub check-writes : counts.CheckWrites shrikes
+check-writes = counted.check-writes shrikes faithful
+
+pub tell-determinate : counts.TellDeterminate shrikes
+tell-determinate = counted.tell-determinate shrikes faithful
+
+pub tell-answers : counts.TellAnswers shrikes
+tell-answers = counted.tell-answers shrikes faithful
+
+pub tells-tree : counts.TellsTree shrikes
+tells-tree = counted.tells-tree shrikes faithful

@@ -78,7 +78,7 @@ pub valid : ValidDocument schema buffer 15
 valid = check-valid papers papers-faithful schema (tableOf schema) translated buffer 15 counts ((0, 0), counts) checked .0 refl
 
 -- the counts beside it are true
-counted : TrueBeside schema buffer 15 counts
+pub counted : TrueBeside schema buffer 15 counts
 unfolding all-open
 counted = refl
 

@@ -1,6 +1,7 @@
 -- The contracts of the calls, as they stand. Each asks nothing of a caller, and allows no outcome but the paper's. Assumes nothing.
 use mathlib.Core.List.{List}
 use Prim.Native.Nat.{ℕ}
+use lib.IntN.{ℤ}
 use denote.Ref.{now}
 use Rattle.paper.specs.Files.{Counted}
 use Rattle.paper.specs.Judgement.{Answer}
@@ -9,7 +10,7 @@ use Rattle.paper.specs.Lists.{Listed}
 use Rattle.paper.specs.Groups.{GroupOutcome}
 use Rattle.paper.specs.Inclusion.{Compared}
 use Rattle.paper.specs.Dtd.Imported.{Spot}
-use Rattle.paper.specs.Calls.{Reads, Writes, Translates, Checks, Performs, PerformsList, PerformsGroup, Compares, Imports, Names, Spots}
+use Rattle.paper.specs.Calls.{Reads, Writes, Translates, Checks, Performs, Tells, PerformsList, PerformsGroup, Compares, Imports, Names, Spots}
 use Rattle.contracts.specs.{Call, TakesAll, Allows, allowed}
 use Rattle.docfile.specs.Outcome.{outcome as counted}
 use Rattle.compare.specs.Outcome.{outcomeOf as compared}
@@ -24,6 +25,8 @@ use Rattle.shrikemuff.proofs.shrike_check.Kinds as check-kinds
 use Rattle.shrikemuff.proofs.shrike_check.Reads as check
 use Rattle.shrikemuff.proofs.shrike_edit.Kinds as edit-kinds
 use Rattle.shrikemuff.proofs.shrike_edit.Reads as edit
+use Rattle.shrikemuff.proofs.shrike_elements.Kinds as elements-kinds
+use Rattle.shrikemuff.proofs.shrike_elements.Reads as elements
 use Rattle.shrikemuff.proofs.shrike_list.Kinds as list-kinds
 use Rattle.shrikemuff.proofs.shrike_list.Reads as list
 use Rattle.shrikemuff.proofs.shrike_group.Kinds as group-kinds
@@ -94,30 +97,30 @@ translate-takes-all κs given = tt
 pub translates : (i : List ℕ × List ℕ) (o : ℕ × List ℕ) → Allows shrike-translate i o → Translates (i .0) (i .1) o
 translates = allowed shrike-translate (λ i o. Translates (i .0) (i .1) o) (λ κs given result after told. told)
 
--- ---- the check: table, buffer and used length
+-- ---- the check: table, buffer, used length and counts
 
-abbrev pub shrike-check : Call (List ℕ × List ℕ × ℕ) Answer
+abbrev pub shrike-check : Call (List ℕ × List ℕ × ℕ × List ℤ) (Answer × List ℤ)
 shrike-check = record {
-  lifetimes = 2;
+  lifetimes = 3;
   ps = check-kinds.ps;
   r = check-kinds.r;
   Asked = check.Asked;
   Learnt = check.Learnt;
-  input = λ κs given. (now (given .0), now (given .1 .0), given .1 .1 .0);
-  outcome = λ κs result after. (result .number, result .place);
+  input = λ κs given. (now (given .0), now (given .1 .0), given .1 .1 .0, now (given .1 .1 .1 .0));
+  outcome = λ κs result after. ((result .number, result .place), now (after .1 .1 .1 .0));
 }
 
 pub check-takes-all : TakesAll shrike-check
 check-takes-all κs given = tt
 
-pub checks : (i : List ℕ × List ℕ × ℕ) (o : Answer) → Allows shrike-check i o → Checks (i .0) (i .1) (i .2) o
-checks = allowed shrike-check (λ i o. Checks (i .0) (i .1) (i .2) o) (λ κs given result after told. told)
+pub checks : (i : List ℕ × List ℕ × ℕ × List ℤ) (o : Answer × List ℤ) → Allows shrike-check i o → Checks (i .0) (i .1) (i .2) (i .3) o
+checks = allowed shrike-check (λ i o. Checks (i .0) (i .1) (i .2) (i .3) o) (λ κs given result after told. told)
 
--- ---- the edit: table, buffer, used length, request and second buffer
+-- ---- the edit: table, buffer, used length, request, second buffer and counts
 
-abbrev pub shrike-edit : Call (List ℕ × List ℕ × ℕ × Request × List ℕ) Outcome
+abbrev pub shrike-edit : Call (List ℕ × List ℕ × ℕ × Request × List ℕ × List ℤ) Outcome
 shrike-edit = record {
-  lifetimes = 4;
+  lifetimes = 5;
   ps = edit-kinds.ps;
   r = edit-kinds.r;
   Asked = edit.Asked;
@@ -128,34 +131,54 @@ shrike-edit = record {
     given .1 .1 .0,
     record { operation = given .1 .1 .1 .0; place = given .1 .1 .1 .1 .0; piece = now (given .1 .1 .1 .1 .1 .0) },
     now (given .1 .1 .1 .1 .1 .1 .0),
+    now (given .1 .1 .1 .1 .1 .1 .1 .0),
   );
-  outcome = λ κs result after. edited result (now (after .1 .0)) (now (after .1 .1 .1 .1 .1 .1 .0));
+  outcome = λ κs result after. edited result (now (after .1 .0)) (now (after .1 .1 .1 .1 .1 .1 .0)) (now (after .1 .1 .1 .1 .1 .1 .1 .0));
 }
 
 pub edit-takes-all : TakesAll shrike-edit
 edit-takes-all κs given = tt
 
-pub performs : (i : List ℕ × List ℕ × ℕ × Request × List ℕ) (o : Outcome) → Allows shrike-edit i o → Performs (i .0) (i .1) (i .2) (i .3) (i .4) o
-performs = allowed shrike-edit (λ i o. Performs (i .0) (i .1) (i .2) (i .3) (i .4) o) (λ κs given result after told. told)
+pub performs : (i : List ℕ × List ℕ × ℕ × Request × List ℕ × List ℤ) (o : Outcome) → Allows shrike-edit i o → Performs (i .0) (i .1) (i .2) (i .3) (i .4) (i .5) o
+performs = allowed shrike-edit (λ i o. Performs (i .0) (i .1) (i .2) (i .3) (i .4) (i .5) o) (λ κs given result after told. told)
 
--- ---- the list of edits: table, buffer, used length and list
+-- ---- the question: table, counts and name
 
-abbrev pub shrike-list : Call (List ℕ × List ℕ × ℕ × List ℕ) (Listed Outcome)
+abbrev pub shrike-elements : Call (List ℕ × List ℤ × ℕ) (ℕ × ℕ)
+shrike-elements = record {
+  lifetimes = 2;
+  ps = elements-kinds.ps;
+  r = elements-kinds.r;
+  Asked = elements.Asked;
+  Learnt = elements.Learnt;
+  input = λ κs given. (now (given .0), now (given .1 .0), given .1 .1 .0);
+  outcome = λ κs result after. (result .number, result .count);
+}
+
+pub elements-takes-all : TakesAll shrike-elements
+elements-takes-all κs given = tt
+
+pub tells : (i : List ℕ × List ℤ × ℕ) (o : ℕ × ℕ) → Allows shrike-elements i o → Tells (i .0) (i .1) (i .2) o
+tells = allowed shrike-elements (λ i o. Tells (i .0) (i .1) (i .2) o) (λ κs given result after told. told)
+
+-- ---- the list of edits: table, buffer, used length, list and counts
+
+abbrev pub shrike-list : Call (List ℕ × List ℕ × ℕ × List ℕ × List ℤ) (Listed Outcome)
 shrike-list = record {
-  lifetimes = 3;
+  lifetimes = 4;
   ps = list-kinds.ps;
   r = list-kinds.r;
   Asked = list.Asked;
   Learnt = list.Learnt;
-  input = λ κs given. (now (given .0), now (given .1 .0), given .1 .1 .0, now (given .1 .1 .1 .0));
-  outcome = λ κs result after. listed result (now (after .1 .0));
+  input = λ κs given. (now (given .0), now (given .1 .0), given .1 .1 .0, now (given .1 .1 .1 .0), now (given .1 .1 .1 .1 .0));
+  outcome = λ κs result after. listed result (now (after .1 .0)) (now (after .1 .1 .1 .1 .0));
 }
 
 pub list-takes-all : TakesAll shrike-list
 list-takes-all κs given = tt
 
-pub performs-list : (i : List ℕ × List ℕ × ℕ × List ℕ) (o : Listed Outcome) → Allows shrike-list i o → PerformsList (i .0) (i .1) (i .2) (i .3) o
-performs-list = allowed shrike-list (λ i o. PerformsList (i .0) (i .1) (i .2) (i .3) o) (λ κs given result after told. told)
+pub performs-list : (i : List ℕ × List ℕ × ℕ × List ℕ × List ℤ) (o : Listed Outcome) → Allows shrike-list i o → PerformsList (i .0) (i .1) (i .2) (i .3) (i .4) o
+performs-list = allowed shrike-list (λ i o. PerformsList (i .0) (i .1) (i .2) (i .3) (i .4) o) (λ κs given result after told. told)
 
 -- ---- the group of edits: table, buffer, used length, list and second buffer
 

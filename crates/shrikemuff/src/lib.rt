@@ -8,7 +8,7 @@ pub mod version;
 
 use compare::Compared;
 use docfile::Count;
-ghost use Rattle.paper.specs.Calls.{Reads, Writes, Translates, Checks, Performs, PerformsList, PerformsGroup, Compares, Imports, Names, Spots};
+ghost use Rattle.paper.specs.Calls.{Reads, Writes, Translates, Checks, Performs, Tells, PerformsList, PerformsGroup, Compares, Imports, Names, Spots};
 ghost use Rattle.docfile.specs.Outcome.{outcome as counted};
 ghost use Rattle.compare.specs.Outcome.{outcomeOf as compared};
 ghost use Rattle.shrikemuff.specs.Outcomes.{edited, listed, grouped, spotted};
@@ -79,12 +79,17 @@ pub extern "C" fn shrike_translate(file: &[u8], table: &mut [u64]) -> u32
     schema::translate(file, table)
 }
 
-// Checks the first `used` tokens of the buffer.
+// Checks the first `used` tokens of the buffer. A check that says valid writes the counts.
 #[no_mangle]
-pub extern "C" fn shrike_check(table: &[u64], doc: &[u32], used: u64) -> Verdict
-    ensures { λ r. ⌜ Checks (now (table .entry)) (now (doc .entry)) used (r .number, r .place) ⌝ }
+pub extern "C" fn shrike_check(
+    table: &[u64],
+    doc: &[u32],
+    used: u64,
+    counts: &mut [i32; paper::MOST_ELEMENTS],
+) -> Verdict
+    ensures { λ r. ⌜ Checks (now (table .entry)) (now (doc .entry)) used (now (counts .entry)) ((r .number, r .place), now (counts .exit)) ⌝ }
 {
-    let said = judge::check(table, doc, used as usize);
+    let said = checks::check(table, doc, used as usize, counts);
     Verdict {
         number: said.number,
         place: said.place,
@@ -92,7 +97,7 @@ pub extern "C" fn shrike_check(table: &[u64], doc: &[u32], used: u64) -> Verdict
 }
 
 // Makes an edit of the first `used` tokens of the buffer, or refuses it. A done edit writes the edit that takes it back into the first
-// places of the second buffer.
+// places of the second buffer, and moves the counts.
 #[no_mangle]
 pub extern "C" fn shrike_edit(
     table: &[u64],
@@ -102,8 +107,9 @@ pub extern "C" fn shrike_edit(
     place: u64,
     piece: &[u32],
     back: &mut [u32],
+    counts: &mut [i32; paper::MOST_ELEMENTS],
 ) -> Answer
-    ensures { λ r. ⌜ Performs (now (table .entry)) (now (doc .entry)) used (record { operation = operation; place = place; piece = now (piece .entry) }) (now (back .entry)) (edited r (now (doc .exit)) (now (back .exit))) ⌝ }
+    ensures { λ r. ⌜ Performs (now (table .entry)) (now (doc .entry)) used (record { operation = operation; place = place; piece = now (piece .entry) }) (now (back .entry)) (now (counts .entry)) (edited r (now (doc .exit)) (now (back .exit)) (now (counts .exit))) ⌝ }
 {
     let made = edits::edit(
         table,
@@ -113,6 +119,7 @@ pub extern "C" fn shrike_edit(
         place as usize,
         piece,
         back,
+        counts,
     );
     Answer {
         number: made.number,
@@ -123,12 +130,30 @@ pub extern "C" fn shrike_edit(
     }
 }
 
-// Makes the edits of a list one after another, up to the first refusal. No inverse is written.
+// The number of elements of a name, answered from the counts.
 #[no_mangle]
-pub extern "C" fn shrike_list(table: &[u64], doc: &mut [u32], used: u64, list: &[u32]) -> Listed
-    ensures { λ r. ⌜ PerformsList (now (table .entry)) (now (doc .entry)) used (now (list .entry)) (listed r (now (doc .exit))) ⌝ }
+pub extern "C" fn shrike_elements(
+    table: &[u64],
+    counts: &[i32; paper::MOST_ELEMENTS],
+    name: u32,
+) -> Count
+    ensures { λ r. ⌜ Tells (now (table .entry)) (now (counts .entry)) name (r .number, r .count) ⌝ }
 {
-    let came = lists::list(table, doc, used as usize, list);
+    checks::elements(table, counts, name)
+}
+
+// Makes the edits of a list one after another, up to the first refusal. No inverse is written; the counts are carried along.
+#[no_mangle]
+pub extern "C" fn shrike_list(
+    table: &[u64],
+    doc: &mut [u32],
+    used: u64,
+    list: &[u32],
+    counts: &mut [i32; paper::MOST_ELEMENTS],
+) -> Listed
+    ensures { λ r. ⌜ PerformsList (now (table .entry)) (now (doc .entry)) used (now (list .entry)) (now (counts .entry)) (listed r (now (doc .exit)) (now (counts .exit))) ⌝ }
+{
+    let came = lists::list(table, doc, used as usize, list, counts);
     let last = came.last;
     Listed {
         last: Answer {

@@ -1,4 +1,4 @@
--- `shrikemuff::shrike_check` meets its contract: it hands on what `judge::check` answers. Assumes nothing.
+-- `shrikemuff::shrike_check` meets its contract: it hands on what `checks::check` answers. Assumes nothing.
 use borrow.Author.Needs.{needs}
 use Rattle.shrikemuff.proofs.shrike_check.Statement.{statement}
 use Rattle.shrikemuff.proofs.shrike_check.Tie as tie
