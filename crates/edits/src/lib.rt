@@ -73,7 +73,7 @@ pub fn commit(
 
 // "carried along by edits": the counts after an edit that cuts `cut` tokens of the document at a place and puts `coming` tokens of the edited
 // one there. The answer: all are 0 to 8,192.
-fn carried(
+pub fn carried(
     table: &[u64],
     counts: &[i32; paper::MOST_ELEMENTS],
     doc: &[u32],

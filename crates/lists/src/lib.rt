@@ -2,9 +2,11 @@
 //
 // `list` asks nothing of its arguments. The list's own fault comes first. Table and shape are tested once, as answers of the first edit: a
 // done edit leaves a document with shape. No inverse is written. Assumes nothing.
+use counts::put;
 use edit_list::edit_at;
 use edit_list::list_fault;
 use edits::Answer;
+use edits::carried;
 use edits::commit;
 use edits::refused;
 use form::form_of;
@@ -29,20 +31,29 @@ fn next_edit(
     operation: u32,
     place: usize,
     piece: &[u32],
+    counts: &mut [i32; paper::MOST_ELEMENTS],
     new: &mut [u32],
 ) -> Answer
     requires { ⌜ (proper (now table) ≡ true) × (shapeOf (now doc) used ≡ true) × (length (now new) ≡ mostTokens) ⌝ }
-    ensures { λ r. ⌜ outcomeOf r (now (doc .exit)) [] ≡ nextEdit (now (table .entry)) (lentWith (now (doc .entry)) used 0) (record { operation = operation; place = place; piece = now (piece .entry) }) ⌝ }
+    ensures { λ r. ⌜ outcomeOf r (now (doc .exit)) [] (now (counts .exit)) ≡ nextEdit (now (table .entry)) (lentWith (now (doc .entry)) used (now (counts .entry)) 0) (record { operation = operation; place = place; piece = now (piece .entry) }) ⌝ }
 {
     let f = form_of(doc, used, operation, place, piece, new);
     if f.number != paper::DONE {
         return refused(f.number, 0, used);
     }
-    let seen = judged(table, new, f.used, f.at, f.coming);
+    let end = f.used;
+    let at = f.at;
+    let cut = used + f.coming - end;
+    let mut after = [0u32; paper::MOST_ELEMENTS];
+    if !carried(table, counts, doc, new, at, cut, f.coming, &mut after) {
+        return refused(paper::COUNTS, 0, used);
+    }
+    let seen = judged(table, new, end, at, f.coming);
     if seen.number != paper::DONE {
         return refused(seen.number, seen.place, used);
     }
-    commit(doc, used, new, f.at, f.used, seen.children)
+    put(counts, &after);
+    commit(doc, used, new, at, end, seen.children)
 }
 
 // "Document, last answer and number of edits done": the answer of the last edit that was run, and how many were done, without a refused one.
@@ -53,9 +64,15 @@ pub struct Listed {
 
 // The edits of a list without a fault, made on a document with shape, by a proper table. "It ends at the first refusal; what was done before
 // stands."
-fn run(table: &[u64], doc: &mut [u32], used: usize, list: &[u32]) -> Listed
+fn run(
+    table: &[u64],
+    doc: &mut [u32],
+    used: usize,
+    list: &[u32],
+    counts: &mut [i32; paper::MOST_ELEMENTS],
+) -> Listed
     requires { ⌜ (proper (now table) ≡ true) × (shapeOf (now doc) used ≡ true) × (0 ≡ faultOf (splitList (now list))) ⌝ }
-    ensures { λ r. ⌜ listedOf r (now (doc .exit)) ≡ editList (now (table .entry)) (now (doc .entry)) used (now (list .entry)) ⌝ }
+    ensures { λ r. ⌜ listedOf r (now (doc .exit)) (now (counts .exit)) ≡ editList (now (table .entry)) (now (doc .entry)) used (now (list .entry)) (now (counts .entry)) ⌝ }
 {
     let mut new = [0u32; paper::MOST_TOKENS];
     let mut last = refused(paper::DONE, 0, used);
@@ -72,6 +89,7 @@ fn run(table: &[u64], doc: &mut [u32], used: usize, list: &[u32]) -> Listed
             e.operation,
             e.place as usize,
             &list[from..to],
+            counts,
             &mut new,
         );
         if last.number != paper::DONE {
@@ -94,8 +112,14 @@ fn none_done(number: u32, used: usize) -> Listed
 }
 
 // "One call takes a list of 1 to 256 edits." "Document, last answer and number of edits done are those of single calls."
-pub fn list(table: &[u64], doc: &mut [u32], used: usize, list: &[u32]) -> Listed
-    ensures { λ r. ⌜ listedOf r (now (doc .exit)) ≡ editList (now (table .entry)) (now (doc .entry)) used (now (list .entry)) ⌝ }
+pub fn list(
+    table: &[u64],
+    doc: &mut [u32],
+    used: usize,
+    list: &[u32],
+    counts: &mut [i32; paper::MOST_ELEMENTS],
+) -> Listed
+    ensures { λ r. ⌜ listedOf r (now (doc .exit)) (now (counts .exit)) ≡ editList (now (table .entry)) (now (doc .entry)) used (now (list .entry)) (now (counts .entry)) ⌝ }
 {
     let fault = list_fault(list);
     if fault != paper::DONE {
@@ -107,5 +131,5 @@ pub fn list(table: &[u64], doc: &mut [u32], used: usize, list: &[u32]) -> Listed
     if !shape::shape(doc, used) {
         return none_done(paper::SHAPE, used);
     }
-    run(table, doc, used, list)
+    run(table, doc, used, list, counts)
 }

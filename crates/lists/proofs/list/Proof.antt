@@ -36,14 +36,14 @@ same-length c = search needs
 returns-3 : tie.Need-returns-3
 returns-3 c =
     let a = c .before .before .before .before .before .before .before .before .before .before .before .args in
-    first-shape (a .table .now) (a .doc .now) (a .used) (a .list .now) (c .before .before .before .before .before .before .before .list-fault .ensures) (c .before .before .before .before .before .before .if1 .left) (c .before .before .before .before .before .proper .ensures) (c .before .before .before .before .if2 .left) (c .before .before .shape .ensures) (c .before .if3 .taken) (c .none-done3 .ensures)
+    first-shape (a .table .now) (a .doc .now) (a .used) (a .list .now) (a .counts .now) (c .before .before .before .before .before .before .before .list-fault .ensures) (c .before .before .before .before .before .before .if1 .left) (c .before .before .before .before .before .proper .ensures) (c .before .before .before .before .if2 .left) (c .before .before .shape .ensures) (c .before .if3 .taken) (c .none-done3 .ensures)
 
 run-requires : tie.Need-run-requires
 run-requires c κs =
-    let a = c .before .before .before .before .before .before .before .before .before .before .before .args in (
-      is-proper (a .table .now) (c .before .before .before .before .before .proper .ensures) (c .before .before .before .before .if2 .left),
-      is-shaped (a .doc .now) (a .used) (c .before .before .shape .ensures) (c .before .if3 .left),
-      has-edits (a .table .now) (a .doc .now) (a .used) (a .list .now) (c .before .before .before .before .before .before .before .list-fault .ensures) (c .before .before .before .before .before .before .if1 .left),
+    let a = c .before .before .before .before .before .before .before .before .before .before .before .before .args in (
+      is-proper (a .table .now) (c .before .before .before .before .before .before .proper .ensures) (c .before .before .before .before .before .if2 .left),
+      is-shaped (a .doc .now) (a .used) (c .before .before .before .shape .ensures) (c .before .before .if3 .left),
+      has-edits (a .table .now) (a .doc .now) (a .used) (a .list .now) (a .counts .now) (c .before .before .before .before .before .before .before .before .list-fault .ensures) (c .before .before .before .before .before .before .before .if1 .left),
     )
 
 same-length-2 : tie.Need-same-length-2

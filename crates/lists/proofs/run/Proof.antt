@@ -8,10 +8,10 @@ use Rattle.lists.proofs.run.Statement.{statement}
 use Rattle.lists.proofs.run.Tie as tie
 
 abbrev Inv-loop : tie.InvT-loop
-Inv-loop table doc₀ used list new₀ last₀ done₀ at₀ doc new last done at = Going table doc₀ used list doc new last done at
+Inv-loop table doc₀ used list counts₀ new₀ last₀ done₀ at₀ doc counts new last done at = Going table doc₀ used list counts₀ doc counts new last done at
 
 abbrev μ-loop : tie.MeasureT-loop
-μ-loop table doc₀ used list new₀ last₀ done₀ at₀ doc new last done at = length list - at
+μ-loop table doc₀ used list counts₀ new₀ last₀ done₀ at₀ doc counts new last done at = length list - at
 
 refused-requires : tie.Need-refused-requires Inv-loop μ-loop
 refused-requires c κs = search needs
@@ -48,14 +48,14 @@ same-length c = search needs
 
 returns : tie.Need-returns Inv-loop μ-loop
 returns c =
-    going-refused _ _ _ _ (c .before .before .before .before .before .before .before .before .before .before .before .before .loop .inv) (c .before .before .before .before .before .before .before .before .before .before .before .loop-test .taken) (c .before .before .before .before .before .before .before .before .before .before .edit-at .ensures) (c .before .before .before .before .before .next-edit .ensures) (λ z. absurd (omega (arith, c .if1 .taken)))
+    going-refused _ _ _ _ _ (c .before .before .before .before .before .before .before .before .before .before .before .before .before .loop .inv) (c .before .before .before .before .before .before .before .before .before .before .before .before .loop-test .taken) (c .before .before .before .before .before .before .before .before .before .before .before .edit-at .ensures) (c .before .before .before .before .before .next-edit .ensures) (λ z. absurd (omega (arith, c .if1 .taken)))
 
 add-done : tie.Need-add-done Inv-loop μ-loop
 add-done c = search (needs, going-few)
 
 loop-less : tie.Need-loop-less Inv-loop μ-loop
 loop-less c =
-    omega (arith, going-less _ _ _ _ (c .before .before .before .before .before .before .before .before .before .before .before .before .loop .inv) (c .before .before .before .before .before .before .before .before .before .before .before .loop-test .taken) (c .before .before .before .before .before .before .before .before .before .before .edit-at .ensures), c .before .before .before .before .before .before .before .before .before .before .before .loop-test .taken)
+    omega (arith, going-less _ _ _ _ _ (c .before .before .before .before .before .before .before .before .before .before .before .before .before .loop .inv) (c .before .before .before .before .before .before .before .before .before .before .before .before .loop-test .taken) (c .before .before .before .before .before .before .before .before .before .before .before .edit-at .ensures), c .before .before .before .before .before .before .before .before .before .before .before .before .loop-test .taken)
 
 loop-again : tie.Need-loop-again Inv-loop μ-loop
 loop-again c = search going-next
