@@ -171,7 +171,10 @@ fn renumbered(schema: &Grammar, spelled: &texts::Spelled) -> Grammar {
             _ => Content::Empty,
         };
         let mut attributes = element.attributes.clone();
-        attributes.iter_mut().for_each(|attribute| attribute.number = at(&spelled.attributes, attribute.number));
+        for attribute in &mut attributes {
+            // A text has no value numbers: what is fixed is spelled as implied.
+            (attribute.number, attribute.fixed) = (at(&spelled.attributes, attribute.number), None);
+        }
         attributes.sort_by_key(|attribute| attribute.number);
         Declaration { content, attributes }
     });

@@ -203,6 +203,7 @@ impl Speller {
                 Kind::Idref => b"IDREF",
                 Kind::Idrefs => b"IDREFS",
             };
+            // A text has no value numbers: what is fixed is spelled as implied.
             let status: &[u8] = if attribute.required { b"#REQUIRED" } else { b"#IMPLIED" };
             for word in [&names[usize::from(attribute.number)], kind, status] {
                 self.must(random, &mut text);

@@ -1,8 +1,10 @@
 //! Item 9, "Rename a panel": a group of edits, worked on a second lent buffer and judged at its end.
 
 use super::answer::{DONE, ROOM, SHAPE, TABLE};
+use super::edits::{self, Edit};
 use super::grammar::Grammar;
-use super::{edits, judgement, lists, tree};
+use super::tree::{self, Element};
+use super::{judgement, lists};
 
 #[derive(Clone, Copy, Debug, PartialEq)]
 pub struct Grouped {
@@ -55,18 +57,7 @@ fn worked(
     if second.len() < doc.len() {
         return Err(before(ROOM));
     }
-    *longest = root.size();
-    let mut refused = None;
-    for (i, edit) in edits.iter().enumerate() {
-        // "Each edit is tested for form, place and size (the first buffer's) in turn"
-        let mut next = root.clone();
-        if let Err(number) = edits::changed(&mut next, edit, doc.len()) {
-            refused = Some((number, 0, i as u32 + 1));
-            break;
-        }
-        root = next;
-        *longest = root.size().max(*longest);
-    }
+    let refused = reached(&mut root, &edits, doc.len(), longest);
     // "The second buffer ends with the last document reached, 0 up to the longest reached (the starting one included), then its old contents"
     let tokens = root.tokens();
     second[..*longest].fill(0);
@@ -84,4 +75,18 @@ fn worked(
     doc[..used as usize].fill(0);
     doc[..tokens.len()].copy_from_slice(&tokens);
     Ok(tokens.len())
+}
+
+/// Does the edits on a tree up to the first that is refused: "Each edit is tested for form, place and size (the first buffer's) in turn".
+fn reached(root: &mut Element, edits: &[Edit], room: usize, longest: &mut usize) -> Option<(u32, u32, u32)> {
+    *longest = root.size();
+    for (i, edit) in edits.iter().enumerate() {
+        let mut next = root.clone();
+        if let Err(number) = edits::changed(&mut next, edit, room) {
+            return Some((number, 0, i as u32 + 1));
+        }
+        *root = next;
+        *longest = root.size().max(*longest);
+    }
+    None
 }
