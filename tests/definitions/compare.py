@@ -59,6 +59,7 @@ REQUIRED = {
     'proper': {0, 1},
     'check': {0, 4, 8, 9, 10, 11, 12, 13},
     'checking': {0, 4, 8, 9, 10, 11, 12},
+    'checkedCounts': {0, 4, 8, 9, 10, 11, 12, 13},
     'edit insert': ALL,
     'edit remove': ALL,
     'edit replace': ALL,
@@ -84,6 +85,7 @@ REQUIRED = {
     'group': ALL - {7, 15},
     '(group)': {'list 4', 'list 5', 'second short', 'edit 4', 'edit 5', 'edit 6', 'later edit', 'renamed', 'longer within'},
     '(list)': {'empty', 'ends inside', '257th begun', 'of 256', 'first refused', 'later refused'},
+    'list, own fault': {4, 5},
     'printed': {'lines', 'check not 0', 'stop 1', 'stop 2', 'stop 3', 'stop 5'},
 }
 
@@ -114,7 +116,7 @@ def term(numbers):
             plain = []
         times, period = best
         if period == 1:
-            parts.append('replicate %d %d' % (times, numbers[at]))
+            parts.append('replicate %d %s' % (times, numbers[at]))
         else:
             parts.append('repeat %d %s' % (times, spelled(numbers[at:at + period])))
         at += times * period
@@ -136,6 +138,11 @@ def signed(number):
     return '(pos %d)' % number if number >= 0 else '(negsuc %d)' % (-number - 1)
 
 
+def integers(numbers):
+    """A list of signed numbers as a term."""
+    return term(map(signed, numbers))
+
+
 def request(operation, place, piece):
     return '(asked %d %d %s)' % (operation, place, term(piece))
 
@@ -154,6 +161,8 @@ use Rattle.paper.specs.Dtd.Imported.{Spot}
 use Rattle.paper.specs.Files.{Counted}
 use Rattle.paper.specs.Schema.{Schema, Parsed, stop, ok}
 use Rattle.paper.specs.Edits.{Request, Outcome}
+use Rattle.paper.specs.Lists.{Listed}
+use Rattle.paper.specs.Groups.{GroupOutcome}
 
 abbrev pub same : List ℕ → List ℕ → Bool
 same [] [] = true
@@ -167,8 +176,15 @@ sameChange (pos m) (negsuc n) = false
 sameChange (negsuc m) (pos n) = false
 sameChange (negsuc m) (negsuc n) = eqb m n
 
-abbrev pub repeat : ℕ → List ℕ → List ℕ
-repeat n l = concat (replicate n l)
+abbrev pub sameCounts : List ℤ → List ℤ → Bool
+sameCounts [] [] = true
+sameCounts [] (b ∷ m) = false
+sameCounts (a ∷ l) [] = false
+sameCounts (a ∷ l) (b ∷ m) = sameChange a b && sameCounts l m
+
+module _ {A : Type 0} where
+  abbrev pub repeat : ℕ → List A → List A
+  repeat n l = concat (replicate n l)
 
 abbrev pub asked : ℕ → ℕ → List ℕ → Request
 asked op at p = record { operation = op; place = at; piece = p }
@@ -194,8 +210,14 @@ answers a n p = eqb (a .0) n && eqb (a .1) p
 abbrev pub tables : ℕ × List ℕ → ℕ → List ℕ → Bool
 tables a n t = eqb (a .0) n && same (a .1) t
 
-abbrev pub results : Outcome → ℕ → ℕ → ℕ → ℤ → ℕ → List ℕ → List ℕ → Bool
-results o n p u c k b s = eqb (o .number) n && eqb (o .place) p && eqb (o .used) u && sameChange (o .change) c && eqb (o .children) k && same (o .buffer) b && same (o .back) s
+abbrev pub results : Outcome → ℕ → ℕ → ℕ → ℤ → ℕ → List ℕ → List ℕ → List ℤ → Bool
+results o n p u c k b s m = eqb (o .number) n && eqb (o .place) p && eqb (o .used) u && sameChange (o .change) c && eqb (o .children) k && same (o .buffer) b && same (o .back) s && sameCounts (o .counts) m
+
+abbrev pub lists : Listed Outcome → ℕ → ℕ → ℕ → ℕ → ℤ → ℕ → List ℕ → List ℤ → Bool
+lists l d n p u c k b m = eqb (l .done) d && results (l .last) n p u c k b [] m
+
+abbrev pub groups : GroupOutcome → ℕ → ℕ → ℕ → ℤ → ℕ → List ℕ → List ℕ → Bool
+groups o n p u c w b s = eqb (o .number) n && eqb (o .place) p && eqb (o .used) u && sameChange (o .change) c && eqb (o .which) w && same (o .buffer) b && same (o .second) s
 
 abbrev pub each : List Bool → Bool
 each l = all (λ b. b) l
@@ -214,7 +236,7 @@ use Prim.Native.Nat.{ℕ, zero, suc, _/_, _%_}
 use lib.Dec.{eqb}
 use lib.IntN.{ℤ, pos, negsuc}
 use lib.ListN.{replicate}
-use Rattle.cases.specs.Same.{same, sameChange, sameFound, repeat, asked, counts, spotted, told, answers, tables, results, each, with-schema}
+use Rattle.cases.specs.Same.{same, sameChange, sameCounts, sameFound, repeat, asked, counts, spotted, told, answers, tables, results, lists, groups, each, with-schema}
 use Rattle.paper.specs.Files.{Counted, read, write}
 use Rattle.paper.specs.Schema.{Schema, Parsed, stop, ok, schemaOf, refusalOf}
 use Rattle.paper.specs.Table.{tableOf, translate, proper}
@@ -223,7 +245,10 @@ use Rattle.paper.specs.Inclusion.{Compared, lost, shortestOf, compare}
 use Rattle.paper.specs.Dtd.Reading.{reading}
 use Rattle.paper.specs.Dtd.Imported.{Spot, declared, import, names, spot}
 use Rattle.paper.specs.Judgement.{checking, check}
+use Rattle.paper.specs.Counts.{checkedCounts, elementsOf}
 use Rattle.paper.specs.Edits.{Request, Outcome, outcome, editBy, edit}
+use Rattle.paper.specs.Lists.{Listed, editList}
+use Rattle.paper.specs.Groups.{GroupOutcome, group}
 use Rattle.paper.specs.Program.{printed}
 use Rattle.paper.specs.Open.{all-open}
 '''
@@ -916,6 +941,8 @@ def check_case(context, buffer, used, counts=None):
                            ('place', '(%s) .1' % call, 14)]))
 
     add('check, own table' if own and context.good else 'check', 'check table %s %d' % (term(buffer), used))
+    call = 'checkedCounts table %s %d %s' % (term(buffer), used, integers(counts))
+    terms.append(Term('checkedCounts', number, 'sameCounts (%s) %s' % (call, integers(counted)), len(buffer)))
     if not own:
         agree('check', (number, place, counted), ref.check_counts_by_schema(context.schema, buffer, used, counts))
         add('checking', 'checking (ofSchema s) %s %d' % (term(buffer), used))
@@ -944,7 +971,7 @@ def edit_case(context, buffer, used, operation, place, piece, second=None, count
     own = context.file is None
     name = OPERATIONS.get(operation, 'other')
     terms = []
-    wanted = '%d %d %d %s %d %s %s' % (number, where, length, signed(change), children, term(after), term(back))
+    wanted = '%d %d %d %s %d %s %s %s' % (number, where, length, signed(change), children, term(after), term(back), integers(counted))
 
     def add(name, call):
         probes = [('number', '(%s) .number' % call, 4),
@@ -953,14 +980,16 @@ def edit_case(context, buffer, used, operation, place, piece, second=None, count
                   ('change as expected', 'sameChange ((%s) .change) %s' % (call, signed(change)), None),
                   ('children', '(%s) .children' % call, 14),
                   ('buffer as expected', 'same ((%s) .buffer) %s' % (call, term(after)), None),
-                  ('second buffer as expected', 'same ((%s) .back) %s' % (call, term(back)), None)]
+                  ('second buffer as expected', 'same ((%s) .back) %s' % (call, term(back)), None),
+                  ('counts as expected', 'sameCounts ((%s) .counts) %s' % (call, integers(counted)), None)]
         terms.append(Term(name, number, 'results (%s) %s' % (call, wanted), len(buffer) + len(piece) + len(second), probes))
 
-    parts = '%s %d %s %s' % (term(buffer), used, request(operation, place, piece), term(second))
+    parts = '%s %d %s %s %s' % (term(buffer), used, request(operation, place, piece), term(second), integers(counts))
     add('edit, own table' if own and context.good else 'edit ' + name, 'edit table ' + parts)
     if not own:
         agree('edit', answer, ref.edit_by_schema(context.schema, buffer, used, operation, place, piece, second, counts))
-        add('editBy ' + name, 'outcome %s %d %s (editBy (ofSchema s) %s)' % (term(buffer), used, term(second), parts))
+        add('editBy ' + name, 'outcome %s %d %s %s (editBy (ofSchema s) %s)' %
+            (term(buffer), used, term(second), integers(counts), parts))
     rows = []
     if context.good:
         before = ref.check_by_schema(context.rules, buffer, used)[0]
@@ -971,7 +1000,7 @@ def edit_case(context, buffer, used, operation, place, piece, second=None, count
         if counts == true_counts(context, buffer, used) and before != 4:
             rows.append(('(counts)', 'true'))
             agree('true counts', (True, counted), (number != 15, true_counts(context, after, length)))
-        if before == 0 and number == 0:
+        if before == 0 and number == 0 and ref.in_range(counts):
             undone = ref.edit_by_schema(context.rules, after, length, *ref.stepping_back(back), [0] * ref.BACK, counted)
             agree('stepping back', (0, 0, used, -change), undone[:4])
             agree('stepping back', (buffer[:used], counts), (undone[5][:used], undone[7]))
@@ -1014,24 +1043,35 @@ def list_case(context, buffer, used, numbers, counts=None):
         agree('list', answer, ref.list_by_schema(context.schema, buffer, used, numbers, counts))
     try:
         edits = ref.edits_of(numbers)
-        rows = [('list', answer[0])]
+        name, rows = 'list', []
         if answer[0]:
             rows.append(('(list)', 'later refused' if answer[5] else 'first refused'))
         if len(edits) == ref.EDITS:
             rows.append(('(list)', 'of 256'))
     except ref.Refused as refused:
-        rows = [('(list)', '257th begun' if refused.number == 5 else 'ends inside' if numbers else 'empty')]
+        name, rows = 'list, own fault', [('(list)', '257th begun' if refused.number == 5 else 'ends inside' if numbers else 'empty')]
+    number, place, length, change, children, done, after, counted = answer
+    call = 'editList table %s %d %s %s' % (term(buffer), used, term(numbers), integers(counts))
+    holds = 'lists (%s) %d %d %d %d %s %d %s %s' % (call, done, number, place, length, signed(change), children, term(after),
+                                                    integers(counted))
+    last = '(%s) .last ' % call
+    probes = [('number', last + '.number', 4), ('place', last + '.place', 14), ('used', last + '.used', 14),
+              ('edits done', '(%s) .done' % call, 9), ('children', last + '.children', 14),
+              ('change as expected', 'sameChange (%s.change) %s' % (last, signed(change)), None),
+              ('buffer as expected', 'same (%s.buffer) %s' % (last, term(after)), None),
+              ('counts as expected', 'sameCounts (%s.counts) %s' % (last, integers(counted)), None)]
+    terms = [Term(name, number, holds, (done + 1) * (len(buffer) + 50) + len(numbers), probes)]
     lines = ('list %d | %s | %s | %s' % (used, plain(buffer), plain(numbers), plain(counts)),
              '%s | %s | %s' % (plain(answer[:6]), plain(answer[6]), plain(answer[7])))
-    return Case([], told(call='list', buffer=buffer, used=used, numbers=numbers, counts=counts, expected=answer), rows, lines)
+    return Case(terms, told(call='list', buffer=buffer, used=used, numbers=numbers, counts=counts, expected=answer), rows, lines)
 
 
 def group_case(context, buffer, used, numbers, second):
     answer = ref.group_edit(context.table, buffer, used, numbers, second)
     if context.file is not None:
         agree('group', answer, ref.group_by_schema(context.schema, buffer, used, numbers, second))
-    number, _, length, _, which, after, worked = answer
-    rows = [('group', number)]
+    number, place, length, change, which, after, worked = answer
+    rows = []
     try:
         edits = ref.edits_of(numbers)
         if len(second) < len(buffer):
@@ -1050,13 +1090,24 @@ def group_case(context, buffer, used, numbers, second):
         rows.append(('(group)', 'list %d' % refused.number))
     lines = ('group %d | %s | %s | %s' % (used, plain(buffer), plain(numbers), plain(second)),
              '%s | %s | %s' % (plain(answer[:5]), plain(after), plain(worked)))
-    return Case([], told(call='group', buffer=buffer, used=used, numbers=numbers, second=second, expected=answer), rows, lines)
+    call = 'group table %s %d %s %s' % (term(buffer), used, term(numbers), term(second))
+    holds = 'groups (%s) %d %d %d %s %d %s %s' % (call, number, place, length, signed(change), which, term(after), term(worked))
+    probes = [('number', '(%s) .number' % call, 4), ('place', '(%s) .place' % call, 14), ('used', '(%s) .used' % call, 14),
+              ('which edit', '(%s) .which' % call, 9),
+              ('change as expected', 'sameChange ((%s) .change) %s' % (call, signed(change)), None),
+              ('buffer as expected', 'same ((%s) .buffer) %s' % (call, term(after)), None),
+              ('second buffer as expected', 'same ((%s) .second) %s' % (call, term(worked)), None)]
+    terms = [Term('group', number, holds, len(buffer) + len(second) + len(numbers), probes)]
+    return Case(terms, told(call='group', buffer=buffer, used=used, numbers=numbers, second=second, expected=answer), rows, lines)
 
 
 def elements_case(context, counts, name):
     number, count = ref.elements(context.table, counts, name)
     lines = 'elements %d | %s' % (name, plain(counts)), '%d %d' % (number, count)
-    return Case([], told(call='elements', counts=counts, name=name, expected=(number, count)), [('elements', number)], lines)
+    call = 'elementsOf table %s %d' % (integers(counts), name)
+    probes = [('number', '(%s) .0' % call, 4), ('count', '(%s) .1' % call, 14)]
+    terms = [Term('elements', number, 'answers (%s) %d %d' % (call, number, count), 100, probes)]
+    return Case(terms, told(call='elements', counts=counts, name=name, expected=(number, count)), lines=lines)
 
 
 def plain(numbers):
@@ -1610,6 +1661,8 @@ class Cases:
                 numbers = r.choice([numbers, numbers, numbers[:-1], numbers + [1], [], numbers + [2, 1, 1]])
             counts = self.make.counts(true_counts(context, buffer, used), wanted == 15)
             case = list_case(context, buffer, used, numbers, counts)
+            if case.terms[0].weight > WEIGHT:
+                continue                                    # too long for the definitions
             if (wanted is None or ('list', wanted) in case.rows) and (row is None or row in case.rows):
                 return self.add(case, context)
         raise SystemExit('no list with answer %s' % (row or wanted))
@@ -1733,6 +1786,11 @@ class Cases:
         add(edit_case(most, tokens + [0] * 4, len(tokens), 1, 95, [8 * 47 + 1, 2]), most)
         add(edit_case(most, tokens + [0] * 4, len(tokens), 1, 95, [8 * 48 + 1, 2]), most)
 
+        self.counted(context, most)
+        self.listed(context)
+        self.grouped(context)
+        self.held()
+
         for table in improved(ref.translate(shade, [0] * TABLE)[1], last.table):
             add(proper_case(table))
 
@@ -1743,6 +1801,114 @@ class Cases:
         for symbols in ([2] * 254 + [5], [3] * 255 + [5], [0] * 64 + [6] * 65, [0, 2, 6, 6], [1, 0, 6, 7, 0, 6, 8],
                         [3, 0, 3, 6, 3, 7], [4] * 200 + [0, 6, 7], [1] * 8 + [6] * 9):
             add(translate_case(ref.file_of(ref.SHADE[:2] + [2, len(symbols)] + symbols + ref.SHADE[9:]), [0] * TABLE))
+
+    def counted(self, shade, most):
+        """Item 7: counts at their ends, by edits that move them and edits that
+        don't; what a check writes; the question."""
+        add = self.in_turn
+        room, true, ends = ref.SHADE_DOC + [7] * 10, [1] * 4 + [0] * 44, (-2 ** 31, 2 ** 31 - 1)
+        use, rows = [25, 20, 165, 2], [17, 2, 17, 243, 2, 2]
+
+        def put(name, number):
+            return true[:name] + [number] + true[name + 1:]
+
+        for operation, place, piece in ((1, 10, use), (2, 10, []), (4, 0, [4, 69])):
+            for name, numbers in ((3, (-1, 0, 8191, 8192, 8193) + ends), (4, (-1, 8192) + ends), (47, (8192, 8193))):
+                for number in numbers:
+                    add(edit_case(shade, room, 15, operation, place, piece, None, put(name, number)), shade)
+        for operation, place, piece in ((1, 3, [9, 12, 173] + rows), (3, 3, [9, 12, 165] + rows), (3, 10, [9, 12, 173, 2]),
+                                        (3, 0, [1, 4, 61, 9, 12, 173] + rows + [2]), (2, 7, [])):
+            for counts in (true, put(2, 8192), put(2, 0)):
+                add(edit_case(shade, room, 15, operation, place, piece, None, counts), shade)
+        # behind the place and both 5s, before judgement
+        for operation, place, second in ((2, 1, 12), (2, 3, 9), (2, 3, 10), (5, 0, 12)):
+            add(edit_case(shade, room, 15, operation, place, [4] * (operation == 5), [98] * second, put(0, -1)), shade)
+        add(edit_case(shade, ref.SHADE_DOC, 15, 1, 10, use, None, put(0, -1)), shade)
+        # element 4 is not declared: it goes, it comes
+        other = [1, 4, 61, 9, 12, 165, 2, 33, 2, 2] + [7] * 4
+        for operation, piece in ((2, []), (3, [9, 12, 173, 2]), (1, [33, 2])):
+            add(edit_case(shade, other, 10, operation, 7, piece, None, [1, 1, 0, 0, 8192] + [0] * 43), shade)
+        for used in (15, 14):
+            for counts in (true, [-7] * 48, [2 ** 31 - 1] * 48):
+                add(check_case(shade, room, used, counts), shade)
+        add(check_case(shade, other, 10, [5] * 48), shade)
+        # forty-eight elements: the last one is counted
+        tokens = [1] + [t for e in range(1, 48) for t in (8 * e + 1, 2)] * 2 + [2]
+        add(check_case(most, tokens, len(tokens), [-1] * 48), most)
+        for number in (8191, 8192):
+            add(edit_case(most, tokens + [0] * 2, len(tokens), 1, 1, [8 * 47 + 1, 2], None, [1] + [2] * 46 + [number]), most)
+        for counts in ([1, 8192, 0, 7, 9] + [0] * 43, true[:47] + [-1], put(4, 8193), [ends[1]] + true[1:]):
+            for name in (0, 1, 3, 4, 47, 48, 2 ** 32 - 1):
+                add(elements_case(shade, counts, name), shade)
+        add(elements_case(most, [1] + [2] * 46 + [8192], 47), most)
+
+    def listed(self, shade):
+        """Item 6: edits done and refused, and the list's own faults."""
+        add = self.in_turn
+        room, true = ref.SHADE_DOC + [7] * 10, [1] * 4 + [0] * 44
+        title, steps = [4, 0, 2, 4, 69], [2, 3, 0, 1, 10, 4, 9, 12, 173, 2, 3, 3, 4, 9, 12, 173, 2, 2, 14, 0, 2, 3, 0]
+        none = Context(None, [])
+        self.contexts.append(none)
+        for numbers in [steps, steps[3:], steps[3:10] + steps[17:], [], title * 16, title * 256, title * 257, title * 255 + [4],
+                        [4, 0, 3, 4, 69], [9, 9, 2 ** 32 - 1], title + [6, 0, 0], title + [1, 0, 0], title + [2, 14, 0] + title,
+                        [2, 10, 0, 4, 0, 8193, 4] + [69] * 8192, [2, 10, 0, 4, 0, 8192, 4] + [69] * 8191] + \
+                [title * times + title[:cut] for times in (0, 1, 256) for cut in range(1, 5)]:
+            add(list_case(shade, room, 15, numbers), shade)
+        for numbers in ([], title, title[:3], title * 257):
+            add(list_case(none, room, 15, numbers), none)
+            add(list_case(shade, room, 99, numbers), shade)
+            add(list_case(shade, room, 15, numbers, [-1] + true[1:]), shade)
+        panels = [1, 10, 4, 9, 12, 173, 2, 1, 10, 4, 9, 12, 181, 2]
+        for number in (8190, 8191, 8192):                   # how many come until there are too many
+            add(list_case(shade, room, 15, panels, [1, number, 1, 1] + [0] * 44), shade)
+        add(list_case(shade, room, 15, [2, 10, 0] + panels, true), shade)
+
+    def grouped(self, shade):
+        """Item 9: a panel renamed, edits that only a group can make, and each
+        refusal."""
+        add = self.in_turn
+        rename, title, use = [4, 3, 2, 12, 173, 4, 10, 2, 20, 173], [4, 0, 2, 4, 69], [1, 10, 4, 25, 20, 165, 2]
+        lengths = use + [2, 10, 0, 2, 10, 0]                # 19, 15 and 11 tokens
+        for numbers in (rename, rename[5:] + rename[:5], rename[:5], rename[5:], lengths, lengths + [9, 0, 0], lengths + use, [9, 0, 0],
+                        [2, 3, 0], [2, 3, 0, 1, 3, 4, 9, 12, 165, 2], rename[:5] + [1, 3, 1, 4], rename[:5] + [2, 4, 0], use * 2, use * 3,
+                        [3, 0, 8, 9, 4, 61, 9, 12, 165, 2, 2], [3, 0, 8, 1, 4, 61, 9, 12, 165, 2, 2], title * 256, title[:4], title * 257):
+            for first, second in ((25, 25), (23, 30), (22, 40), (15, 19)):
+                add(group_case(shade, ref.SHADE_DOC + [7] * (first - 15), 15, numbers, [98] * second), shade)
+        # before any edit: table, shape, list, second buffer
+        none = Context(None, [])
+        self.contexts.append(none)
+        for numbers in ([], title, title * 257):
+            for second in (25, 24):
+                add(group_case(none, ref.SHADE_DOC + [7] * 10, 99, numbers, [98] * second), none)
+                add(group_case(shade, ref.SHADE_DOC + [7] * 10, 99, numbers, [98] * second), shade)
+                add(group_case(shade, ref.SHADE_DOC + [7] * 10, 15, numbers, [98] * second), shade)
+        # judged whole: a fault that no edit touches, and one that an edit takes away
+        faulty = [1, 4, 61, 9, 12, 165, 25, 20, 165, 2, 2, 2, 7, 7]
+        for numbers in (title, title + [2, 6, 0], [2, 6, 0] + use):
+            add(group_case(shade, faulty, 12, numbers, [98] * 14), shade)
+
+    def held(self):
+        """Item 8: sixteen fixed attributes. The root has attribute 0, required,
+        1 and 63, fixed, and an ID; the next element shares attribute 1; the last
+        has the other thirteen."""
+        add = self.in_turn
+        gauge = self.translated_context(
+            [3, 0, 2, 4, 3, 1, 6, 7] + [4, 0, 0, 0, 1, 0, 2, 20, 2, 1, 1, 63, 0, 2, 65535] + [0, 2, 1, 0, 2, 30, 2, 0, 1] +
+            [0, 14] + [n for a in range(13) for n in (a, 0, 2, a)] + [20, 0, 1])
+        attributes = [(0, 1, 20), (0, 63, 65535), (1, 1, 30), (2, 0, 0), (2, 1, 1), (2, 12, 12)]
+        for e, number, value in attributes:
+            for values in ([], [value], [value ^ 1], [value, value], [value, 5], [5, value], [30], [20]):
+                given = [8 * number + ATTRIBUTE] * bool(values) + [8 * one + VALUE for one in values]
+                inner = [] if e == 0 else [8 * e + 1] + given + [2]
+                tokens = [1, 4, 61] + (given if e == 0 else []) + inner + [2]
+                add(check_case(gauge, tokens + [7], len(tokens)), gauge)
+                plain_one = [1, 4, 61] + ([] if e == 0 else [8 * e + 1, 2]) + [2]
+                place = 0 if e == 0 else 3
+                if values:
+                    add(edit_case(gauge, plain_one + [7] * 6, len(plain_one), 4, place, given), gauge)
+                add(edit_case(gauge, tokens + [7] * 6, len(tokens), 5, place, [8 * number + ATTRIBUTE]), gauge)
+                if e:
+                    add(edit_case(gauge, [1, 4, 61, 2] + [7] * 9, 4, 1, 3, inner), gauge)
 
     def told_apart(self, shade, nest, wide):
         """With every seed: a case for each slip that no law and no P case notices (tests/wrong-definitions --compare)."""
@@ -1765,6 +1931,15 @@ class Cases:
         self.add(edit_case(shade, ref.SHADE_DOC + [7] * 9, 15, 1, 3, [9, 12, 173] + rows + [2]), shade)
         self.add(edit_case(shade, ref.SHADE_DOC + [7] * 9, 15, 3, 0, [1, 4, 61, 9, 12, 173] + rows + [2, 2]), shade)
         self.add(translate_case([1, 0, 0, 2, 1, 1, 0, 2, 1], [3] * TABLE))      # a second ID, and then no status
+        self.add(elements_case(shade, [1, 1, 1, 1, 9] + [0] * 43, 4), shade)    # the name E, and a number where it would be counted
+        self.add(group_case(shade, room, 99, [2, 10, 0] * 257, [98] * 21), shade)       # no shape, and a 257th edit
+        self.add(group_case(shade, room, 15, [9, 0, 0], [98] * 21), shade)
+        falling = [3, 2, 0, 1, 63, 0]                       # by element, where attributes rise
+        table = list(shade.table)
+        for e in (1, 3):
+            table[2 + e * BLOCK + 1:2 + e * BLOCK + 6] = [2 ** 63 + 6, 0, 0, 0, 0]
+        self.add(proper_case(table[:ref.FIXED] + [2] + falling + [0] * (TABLE - ref.FIXED - 7)))
+        self.add(proper_case(table[:ref.FIXED] + [2] + falling[3:] + falling[:3] + [0] * (TABLE - ref.FIXED - 7)))
 
     # -- all
 
@@ -1794,7 +1969,7 @@ class Cases:
                 self.comparison(number)
             elif call == 'schemaOf':
                 self.translate(number)
-            elif call in ('check', 'checking'):
+            elif call in ('check', 'checking', 'checkedCounts'):
                 self.check(number)
             elif call == 'check, own table':
                 self.check(number, self.own())
@@ -1810,7 +1985,7 @@ class Cases:
                 self.edit(None, None if number == 'true' else 15, row=(call, number))
             elif call == 'list':
                 self.listing(number)
-            elif call == '(list)':
+            elif call in ('(list)', 'list, own fault'):
                 self.listing(row=(call, number))
             elif number == 'steps back':
                 self.run_back()
