@@ -1994,8 +1994,7 @@ class Cases:
             elif call == '(set)':
                 self.edit(4, row=(call, number))
             elif call.startswith('('):
-                while number not in self.counts.get(call, {}):
-                    self.edit(None, number)
+                self.edit(None, number, row=(call, number))
             else:
                 self.edit(operations[call.split()[1]], number)
         ways = [(self.read, 5), (self.write, 4), (self.translate, 11), (self.proper, 5), (self.printed, 5),
