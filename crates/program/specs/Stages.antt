@@ -7,13 +7,17 @@ use Prim.Native.Nat.{ℕ, _≤_, min}
 use native.Mathlib.Omega.{arith}
 use borrow.Author.Tests.{eqb-true, eq-eqb, ne-eqb, leb-true, not-true, not-false}
 use lib.Dec.{T, eqb, leb}
-use lib.ListN.{length}
+use lib.IntN.{ℤ}
+use lib.ListN.{length, take}
 use Rattle.paper.specs.Basics.{mostTokens, mostFile, elem}
 use Rattle.paper.specs.Files.{Result, refused, made, Counted, counted, reading, read}
 use Rattle.paper.specs.Schema.{Schema, Parsed, stop, ok, schemaOf}
 use Rattle.paper.specs.Table.{tableLength, tableOf, proper, translated, translate}
 use Rattle.paper.specs.Rules.{ofTable, ofSchema}
-use Rattle.paper.specs.Judgement.{checking, check}
+use Rattle.paper.specs.Tokens.{toks}
+use Rattle.paper.specs.Judgement.{Answer, checking, check}
+use Rattle.paper.specs.Counts.{fresh, checkedCounts}
+use Rattle.paper.specs.Calls.{Checks}
 use Rattle.paper.specs.Program.{Line, halt, line, editLines, checkLines, documentLines, schemaLines, places, opened, linesOf, printed}
 use Rattle.numbers.specs.Laws.{tokens-refused}
 use Rattle.docfile.specs.declared.Count.{Count}
@@ -34,20 +38,35 @@ line-alone l = sym (text-more l [] ∙ rw text-none (append-nil (lineOf l)))
 
 -- ---- the check
 
-module _ (table doc : List ℕ) (used : ℕ) (file : List ℕ) (fine : proper table ≡ true) {n p : ℕ} (e : (n, p) ≡ check table doc used) where
+module _ (table doc : List ℕ) (used : ℕ) (file : List ℕ) (fine : proper table ≡ true) (lent : List ℤ) {n p : ℕ} {counts : List ℤ}
+    (e : Checks table doc used lent ((n, p), counts)) where
   abbrev after-check : List ℕ
   after-check = text (checkLines (ofTable table) doc used (checking (ofTable table) doc used) file)
 
+  answer-is : (n, p) ≡ check table doc used
+  answer-is = ap (λ (o : Answer × List ℤ). o .0) e
+
   checked : (n, p) ≡ checking (ofTable table) doc used
   unfolding check
-  checked = e ∙ rw fine
+  checked = answer-is ∙ rw fine
+
+  -- the counts that a check leaves which says valid
+  counts-are : n ≡ 0 → counts ≡ fresh (ofTable table .elements) (toks (take used doc))
+  unfolding checkedCounts
+  counts-are z =
+      ap (λ (o : Answer × List ℤ). o .1) e
+      ∙ ap (λ k. cond (eqb k 0) (fresh (ofTable table .elements) (toks (take used doc))) lent) (sym (ap (λ (a : Answer). a .0) answer-is) ∙ z)
 
   module _ {out after : List ℕ} {next : ℕ} (l : Put out 0 (lineOf (line 0 n p used)) next after) where
     pub check-ends : (n ≡ 0 → ⊥) → Put out 0 after-check next after
     check-ends z = put-as l (line-alone (line 0 n p used) ∙ ap text (rw (← checked, ne-eqb n 0 z)))
 
-    pub check-goes : {r : ℕ} {last : List ℕ} → n ≡ 0 → Put after next (text (editLines (length file) (ofTable table) 1 doc used file)) r last → Put out 0 after-check r last
-    check-goes z q = put-as (put-both l q) (sym (text-more (line 0 n p used) (editLines (length file) (ofTable table) 1 doc used file)) ∙ ap text (rw (← checked, eq-eqb n 0 z)))
+    pub check-goes : {r : ℕ} {last : List ℕ} → n ≡ 0 → Put after next (text (editLines (length file) (ofTable table) 1 doc used counts file)) r last → Put out 0 after-check r last
+    check-goes z q =
+        put-as (put-both l q)
+        (sym (text-more (line 0 n p used) (editLines (length file) (ofTable table) 1 doc used counts file))
+        ∙ ap (λ c. text (line 0 n p used ∷ editLines (length file) (ofTable table) 1 doc used c file)) (counts-are z)
+        ∙ ap text (rw (← checked, eq-eqb n 0 z)))
 
 -- ---- the document
 

@@ -2,11 +2,13 @@
 //
 // `output` goes over schema, document, check and edits in turn and puts the lines into a buffer. It asks nothing of the files. Assumes
 // nothing.
+use checks::check;
 use edit_lines::OUTPUT;
 use edit_lines::put_edits;
 use lines::put_line;
 use lines::put_stop;
 use paper::DONE;
+use paper::MOST_ELEMENTS;
 use paper::MOST_FILE;
 use paper::MOST_TOKENS;
 use paper::ROOM;
@@ -29,20 +31,27 @@ ghost use Rattle.lines.specs.Lines.{text};
 ghost use Rattle.edit_lines.specs.Run.{outputRoom};
 ghost use Rattle.program.specs.Stages.{given};
 
-// "After a check that isn't 0 nothing more is printed."
-fn put_check(table: &[u64], doc: &mut [u32], used: usize, file: &[u8], out: &mut [u8]) -> usize
+// "After a check that isn't 0 nothing more is printed." Item 7: the counts are "written by a check that says valid, carried along by edits".
+fn put_check(
+    table: &[u64],
+    doc: &mut [u32],
+    used: usize,
+    file: &[u8],
+    out: &mut [u8],
+    counts: &mut [i32; MOST_ELEMENTS],
+) -> usize
     requires { ⌜ (proper (now table) ≡ true) × (length (now file) ≤ mostFile) × (length (now out) ≡ outputRoom) ⌝ }
     ensures { λ r. ⌜ Put (now (out .entry)) 0 (text (checkLines (ofTable (now (table .entry))) (now (doc .entry)) used (checking (ofTable (now (table .entry))) (now (doc .entry)) used) (now (file .entry)))) r (now (out .exit)) ⌝ }
 {
-    let v = judge::check(table, doc, used);
+    let v = check(table, doc, used, counts);
     let next = put_line(out, 0, 0, v.number, v.place, used);
     if v.number != DONE {
         return next;
     }
-    put_edits(table, doc, used, file, out, next)
+    put_edits(table, doc, used, file, out, next, counts)
 }
 
-// The document file is read into a buffer of 8,192 zeros.
+// The document file is read into a buffer of 8,192 zeros, and the counts beside it are zeros.
 fn put_document(table: &[u64], doc: &[u8], edits: &[u8], out: &mut [u8]) -> usize
     requires { ⌜ (proper (now table) ≡ true) × (length (now edits) ≤ mostFile) × (length (now out) ≡ outputRoom) ⌝ }
     ensures { λ r. ⌜ Put (now (out .entry)) 0 (text (documentLines (ofTable (now (table .entry))) (reading (now (doc .entry)) places) (now (edits .entry)))) r (now (out .exit)) ⌝ }
@@ -52,7 +61,9 @@ fn put_document(table: &[u64], doc: &[u8], edits: &[u8], out: &mut [u8]) -> usiz
     if c.number != DONE {
         return put_stop(out, 0, c.number);
     }
-    put_check(table, &mut tokens, c.count as usize, edits, out)
+    let mut counts = [0i32; MOST_ELEMENTS];
+    let used = c.count as usize;
+    put_check(table, &mut tokens, used, edits, out, &mut counts)
 }
 
 // The schema file is translated.

@@ -12,7 +12,7 @@ check-requires c κs = search needs
 
 put-line-requires : tie.Need-put-line-requires
 put-line-requires c κs =
-    let a = c .before .before .before .before .before .before .before in
+    let a = c .before .before .before .before .before .before .before .before in
     (omega arith, omega (arith, a .pre .2))
 
 same-length : tie.Need-same-length
@@ -23,13 +23,13 @@ same-length-2 c = search needs
 
 returns : tie.Need-returns
 returns c =
-    let a = c .before .before .before .before .before .before .before .before .before .before .before .before in
-    check-ends (a .args .table .now) (a .args .doc .now) (a .args .used) (a .args .file .now) (a .pre .0) (c .before .before .before .before .before .before .check .ensures) (c .before .before .before .before .put-line .ensures .0) (search needs)
+    let a = c .before .before .before .before .before .before .before .before .before .before .before .before .before in
+    check-ends (a .args .table .now) (a .args .doc .now) (a .args .used) (a .args .file .now) (a .pre .0) (a .args .counts .now) (c .before .before .before .before .before .before .check .ensures) (c .before .before .before .before .put-line .ensures .0) (search needs)
 
 put-edits-requires : tie.Need-put-edits-requires
 put-edits-requires c κs =
-    let a = c .before .before .before .before .before .before .before .before .before .before .before .before .before .before in
-    let p = c .before .before .before .before .before .before .put-line .ensures in
+    let a = c .before .before .before .before .before .before .before .before .before .before .before .before .before .before .before .before in
+    let p = c .before .before .before .before .before .before .before .put-line .ensures in
     (a .pre .0, a .pre .1, put-length (p .0) ∙ a .pre .2, omega (arith, p .1))
 
 same-length-3 : tie.Need-same-length-3
@@ -40,8 +40,8 @@ same-length-4 c = search needs
 
 returns-2 : tie.Need-returns-2
 returns-2 c =
-    let a = c .before .before .before .before .before .before .before .before .before .before .before .before .before .before .before .before .before .before .before in
-    check-goes (a .args .table .now) (a .args .doc .now) (a .args .used) (a .args .file .now) (a .pre .0) (c .before .before .before .before .before .before .before .before .before .before .before .before .before .check .ensures) (c .before .before .before .before .before .before .before .before .before .before .before .put-line .ensures .0) (search needs) (c .before .before .before .before .put-edits .ensures)
+    let a = c .before .before .before .before .before .before .before .before .before .before .before .before .before .before .before .before .before .before .before .before .before in
+    check-goes (a .args .table .now) (a .args .doc .now) (a .args .used) (a .args .file .now) (a .pre .0) (a .args .counts .now) (c .before .before .before .before .before .before .before .before .before .before .before .before .before .before .check .ensures) (c .before .before .before .before .before .before .before .before .before .before .before .before .put-line .ensures .0) (c .before .before .before .before .before .before .before .before .if1 .left) (c .before .before .before .before .put-edits .ensures)
 
 pub put-check-spec : {M : Type 1} → statement M
 put-check-spec =

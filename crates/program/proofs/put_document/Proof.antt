@@ -24,15 +24,15 @@ returns c =
     let a = c .before .before .before .before .before .before .before .before .before .before .before .before .before in
     document-ends (a .args .table .now) (a .args .doc .now) (a .args .edits .now) (c .before .before .before .before .before .before .before .read .ensures) (search needs) (c .before .before .put-stop .ensures)
 
+cast-used : tie.Need-cast-used
+cast-used c = search needs
+
 slice-aggregate-put-check : tie.Need-slice-aggregate-put-check
 slice-aggregate-put-check c = search needs
 
-cast-put-check : tie.Need-cast-put-check
-cast-put-check c = search needs
-
 put-check-requires : tie.Need-put-check-requires
 put-check-requires c κs =
-    let a = c .before .before .before .before .before .before .before .before .before .before .before .before in
+    let a = c .before .before .before .before .before .before .before .before .before .before .before .before .before in
     a .pre
 
 same-length-2 : tie.Need-same-length-2
@@ -40,8 +40,8 @@ same-length-2 c = search needs
 
 returns-2 : tie.Need-returns-2
 returns-2 c =
-    let a = c .before .before .before .before .before .before .before .before .before .before .before .before .before .before .before .before in
-    document-goes (a .args .table .now) (a .args .doc .now) (a .args .edits .now) (c .before .before .before .before .before .before .before .before .before .before .read .ensures) (search needs) (c .before .before .before .put-check .ensures)
+    let a = c .before .before .before .before .before .before .before .before .before .before .before .before .before .before .before .before .before in
+    document-goes (a .args .table .now) (a .args .doc .now) (a .args .edits .now) (c .before .before .before .before .before .before .before .before .before .before .before .read .ensures) (search needs) (c .before .before .before .put-check .ensures)
 
 pub put-document-spec : {M : Type 1} → statement M
 put-document-spec =
@@ -52,8 +52,8 @@ put-document-spec =
     put-stop-requires
     same-length
     returns
+    cast-used
     slice-aggregate-put-check
-    cast-put-check
     put-check-requires
     same-length-2
     returns-2)
