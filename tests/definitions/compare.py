@@ -1911,7 +1911,7 @@ class Cases:
                     add(edit_case(gauge, [1, 4, 61, 2] + [7] * 9, 4, 1, 3, inner), gauge)
 
     def told_apart(self, shade, nest, wide):
-        """With every seed: a case for each slip that no law and no P case notices (tests/wrong-definitions --compare)."""
+        """With every seed: a case for each slip that the comparison must notice (tests/wrong-definitions --compare)."""
         panel = [9, 12, 173, 2]
         faulty = [1, 4, 61, 9, 12, 165, 2, 25, 2, 2]        # the fault is directly behind the piece
         self.add(check_case(nest, [1] * 65 + [2] * 65, 130), nest)
