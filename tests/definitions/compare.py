@@ -813,7 +813,7 @@ class Maker:
         elif way in (14, 15, 16):
             self.change_fixed(table)
         elif way == 13 and self.chance(0.2):
-            table[r.randrange(TABLE)] = r.choice([0, 1, 2, 2 ** 63, 2 ** 64 - 1])
+            table[r.randrange(ref.FIXED)] = r.choice([0, 1, 2, 2 ** 63, 2 ** 64 - 1])
 
 
     def change_fixed(self, table):
@@ -833,7 +833,8 @@ class Maker:
                 entries.sort()
             table[ref.FIXED:ref.FIXED + 1 + 3 * len(entries)] = [len(entries)] + [n for one in entries for n in one]
         else:
-            table[at + r.randrange(3)] = r.choice([0, 1, 2, 63, 64, 65535, 65536, 2 ** 64 - 1])
+            part = r.randrange(3)                           # of an attribute the definitions compute 2 ^ its number
+            table[at + part] = r.choice([0, 1, 2, 63, 64, 65535, 65536] + [2 ** 64 - 1] * (part != 1))
 
 
 TREE_WAYS = ['root', 'undeclared', 'rename', 'attribute more', 'attribute less', 'value more', 'child less',
@@ -1200,7 +1201,7 @@ def improved(shade, last):
                            (1, [1, 1, 0]), (1, [3, 2, 0]), (1, [1, 4, 0]), (1, [1, 62, 0]), (1, [1, 64, 0]), (1, [1, 67, 0]),
                            (1, [0, 0, 0]), (1, [4, 2, 0]), (1, [48, 2, 0]), (1, [2, 2, 0]), (1, [1, 2, 0, 1]), (1, [1, 2, 0, 0, 1]),
                            (0, [1, 2, 0]), (0, [0, 0, 1]), (2, [1, 2, 0]), (16, [1, 2, 0]), (17, [1, 2, 0]), (2 ** 64 - 1, []),
-                           (1, [1, 2, 0] + [0] * 44 + [1]), (1, [2 ** 64 - 1, 2, 0]), (1, [1, 2 ** 64 - 1, 0])):
+                           (1, [1, 2, 0] + [0] * 44 + [1]), (1, [2 ** 64 - 1, 2, 0]), (1, [1, 2 ** 16, 0])):
         out.append(put(fixed, (ref.FIXED, count), *((ref.FIXED + 1 + k, number) for k, number in enumerate(entries))))
     # sixteen of one element, and the seventeenth place is none
     full = put(shade, (place(1, 1), 2 ** 64 - 1), *((ref.FIXED + 1 + 3 * k + j, n) for k in range(16) for j, n in enumerate((1, 2 + k, k))))
