@@ -31,7 +31,7 @@ ghost use Rattle.lines.specs.Lines.{text};
 ghost use Rattle.edit_lines.specs.Run.{outputRoom};
 ghost use Rattle.program.specs.Stages.{given};
 
-// "After a check that isn't 0 nothing more is printed." Item 7: the counts are "written by a check that says valid, carried along by edits".
+// "After a check that isn't 0 nothing more is printed." Item 7: the counts are "written by a check that says valid and carried along by edits".
 fn put_check(
     table: &[u64],
     doc: &mut [u32],
