@@ -13,7 +13,8 @@ use Rattle.promises.specs.Right.{EachRight}
 use Rattle.promises.specs.Statements.{Translated, Runs}
 use Rattle.promises.specs.Example as example
 use Rattle.shrikemuff.proofs.Contracts.{shrike-translate, shrike-edit}
-use Rattle.demands.specs.Theorems.{shrikes, demand-3}
+use Rattle.demands.specs.Shrikes.{shrikes}
+use Rattle.demands.specs.Theorems.{demand-3}
 
 -- ---- the contracts allow the paper's outcomes
 

@@ -295,25 +295,3 @@ module _ (op place : ℕ) (piece buf : List ℕ) (used : ℕ) where
 
 pub is-shaped : (buf : List ℕ) (used : ℕ) {z : Bool} → z ≡ shapeOf buf used → not z ≡ false → shapeOf buf used ≡ true
 is-shaped buf used {z} e h = sym e ∙ not-false z h
-
--- ---- what a proper table has
-
-pub table-first : (t : List ℕ) → proper t ≡ true → 0 < length t
-table-first t p = omega (arith, table-parts t p .long)
-
-pub table-few : (t : List ℕ) → proper t ≡ true → getD t 0 0 ≤ mostElements
-table-few t p = table-parts t p .few-elements
-
--- ---- a part that is lent
-
-pub part-few : (at n : ℕ) (l : List ℕ) → n ≤ mostTokens → length (take (at + n - at) (drop at l)) ≤ mostTokens
-part-few at n l h = omega (arith, length-take (at + n - at) (drop at l))
-
-pub part-moved : (table : List ℕ) (at cut come : ℕ) (doc new : List ℕ) {counts : List ℤ} {after : List ℕ} {r : Bool}
-    → Moved (getD table 0 0) (toks (take (at + cut - at) (drop at doc))) (toks (take (at + come - at) (drop at new))) counts after r
-    → Moved (ofTable table .elements) (toks (take cut (drop at doc))) (toks (take come (drop at new))) counts after r
-part-moved table at cut come doc new {counts} {after} {r} m =
-    let c : at + cut - at ≡ cut = omega arith in
-    let d : at + come - at ≡ come = omega arith in
-    subst (λ k. Moved (getD table 0 0) (toks (take k (drop at doc))) (toks (take come (drop at new))) counts after r) c
-    (subst (λ k. Moved (getD table 0 0) (toks (take (at + cut - at) (drop at doc))) (toks (take k (drop at new))) counts after r) d m)

@@ -3,7 +3,7 @@ use Prim.Native.Nat.{ℕ, _+_, _*_}
 
 -- Another major number: a call, a struct or a number that was there is another. Another minor number: something was added.
 abbrev pub major : ℕ
-major = 1
+major = 2
 
 abbrev pub minor : ℕ
 minor = 0

@@ -3,7 +3,7 @@
 ghost use mathlib.Core.Path.{_≡_};
 ghost use Rattle.shrikemuff.specs.Version.{version};
 
-pub const VERSION: u32 = 1000000;
+pub const VERSION: u32 = 2000000;
 
 // major × 1,000,000 + minor × 1,000 + patch
 #[no_mangle]

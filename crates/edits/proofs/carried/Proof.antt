@@ -1,6 +1,6 @@
 -- `edits::carried` meets its contract. Assumes nothing.
 use native.Mathlib.Omega.{arith}
-use Rattle.edits.specs.Outcomes.{table-first, table-few, part-few, part-moved}
+use Rattle.edits.specs.Parts.{table-first, table-few, part-few, part-moved}
 use borrow.Author.Needs.{needs}
 use Rattle.edits.proofs.carried.Statement.{statement}
 use Rattle.edits.proofs.carried.Tie as tie
