@@ -40,8 +40,8 @@
  *     shrike_check                    under 42,000
  *     shrike_edit                     under 75,000
  *     shrike_list                     under 225,000
- *     shrike_group                    under 110,000
- *     shrike_elements                 under 5,000
+ *     shrike_group                    under 75,000
+ *     shrike_elements                 under 1,000
  *     shrike_compare                  under 57,000
  *
  * So a thread keeps 256 KiB free. (A main thread has 8 MiB by custom. Threads of musl have 128 KiB unless they ask for more.) A large

@@ -1,7 +1,7 @@
 //! The constants of `include/shrikemuff.h`, which says what each is, under its names without `SHRIKE_`.
 
 // The version that this binding is written for.
-pub const VERSION_MAJOR: u32 = 1;
+pub const VERSION_MAJOR: u32 = 2;
 pub const VERSION_MINOR: u32 = 0;
 pub const VERSION_PATCH: u32 = 0;
 pub const VERSION: u32 = VERSION_MAJOR * 1_000_000 + VERSION_MINOR * 1_000 + VERSION_PATCH;
