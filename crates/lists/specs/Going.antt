@@ -18,7 +18,7 @@ use Rattle.edit_list.specs.declared.Edit.{Edit}
 use Rattle.edit_list.specs.Places.{Within, Handed, requestOf}
 use Rattle.edit_list.specs.Left.{Left, Whole, left-all, Next, left-none, left-next}
 use Rattle.lists.specs.Outcomes.{listedOf}
-use Rattle.lists.specs.Single.{next-shape}
+use Rattle.next_edits.specs.Single.{next-shape}
 
 -- So many edits are done, and the last answer is there: the list comes to what the edits that are left come to.
 pub record Going (table doc₀ : List ℕ) (used : ℕ) (list : List ℕ) (counts₀ : List ℤ) (doc : List ℕ) (counts : List ℤ) (new : List ℕ) (last : Answer) (done at : ℕ) : Type 0 where

@@ -1,60 +1,29 @@
 // A list of edits in one call: each is made on what the one before it left, up to the first refusal.
 //
 // `list` asks nothing of its arguments. The list's own fault comes first. Table and shape are tested once, as answers of the first edit: a
-// done edit leaves a document with shape. No inverse is written. Assumes nothing.
-use counts::put;
+// done edit leaves a document with shape. After it IDs and references are kept from edit to edit. No inverse is written. Assumes nothing.
 use edit_list::edit_at;
 use edit_list::list_fault;
 use edits::Answer;
-use edits::carried;
-use edits::commit;
 use edits::refused;
-use form::form_of;
-use touched::judged;
+use field::WORDS;
+use kept_keys::learn;
+use key_moves::VALUES;
+use next_edits::kept_edit;
+use next_edits::next_edit;
 ghost use mathlib.Core.Path.{_≡_};
 ghost use mathlib.Core.Bool.{true};
-ghost use mathlib.Core.List.{[]};
-ghost use lib.ListN.{length};
+ghost use Prim.Native.Nat.{_≤_};
+ghost use lib.ListN.{length, take, drop};
 ghost use Rattle.paper.specs.Basics.{mostTokens};
+ghost use Rattle.paper.specs.Tokens.{toks};
 ghost use Rattle.paper.specs.Shape.{shapeOf};
 ghost use Rattle.paper.specs.Table.{proper};
-ghost use Rattle.paper.specs.Lists.{splitList, faultOf, lentWith, nextEdit, editList};
-ghost use Rattle.edits.specs.Outcomes.{outcomeOf};
+ghost use Rattle.paper.specs.Lists.{splitList, faultOf, editList};
+ghost use Rattle.kept_keys.specs.Follow.{Keeps};
 ghost use Rattle.lists.specs.Outcomes.{listedOf, listRefusal};
-
-// One edit of a document with shape, by a proper table: what a single call comes to that has room for its inverse. "It writes no inverses."
-// The edited tokens are made in a buffer that is lent for it.
-fn next_edit(
-    table: &[u64],
-    doc: &mut [u32],
-    used: usize,
-    operation: u32,
-    place: usize,
-    piece: &[u32],
-    counts: &mut [i32; paper::MOST_ELEMENTS],
-    new: &mut [u32],
-) -> Answer
-    requires { ⌜ (proper (now table) ≡ true) × (shapeOf (now doc) used ≡ true) × (length (now new) ≡ mostTokens) ⌝ }
-    ensures { λ r. ⌜ outcomeOf r (now (doc .exit)) [] (now (counts .exit)) ≡ nextEdit (now (table .entry)) (lentWith (now (doc .entry)) used (now (counts .entry)) 0) (record { operation = operation; place = place; piece = now (piece .entry) }) ⌝ }
-{
-    let f = form_of(doc, used, operation, place, piece, new);
-    if f.number != paper::DONE {
-        return refused(f.number, 0, used);
-    }
-    let end = f.used;
-    let at = f.at;
-    let cut = used + f.coming - end;
-    let mut after = [0u32; paper::MOST_ELEMENTS];
-    if !carried(table, counts, doc, new, at, cut, f.coming, &mut after) {
-        return refused(paper::COUNTS, 0, used);
-    }
-    let seen = judged(table, new, end, at, f.coming);
-    if seen.number != paper::DONE {
-        return refused(seen.number, seen.place, used);
-    }
-    put(counts, &after);
-    commit(doc, used, new, at, end, seen.children)
-}
+ghost use Rattle.lists.specs.Kept.{Begun, Ended};
+ghost use Rattle.lists.specs.First.{FirstOf};
 
 // "Document, last answer and number of edits done": the answer of the last edit that was run, and how many were done, without a refused one.
 pub struct Listed {
@@ -62,8 +31,114 @@ pub struct Listed {
     pub done: u32,
 }
 
-// The edits of a list without a fault, made on a document with shape, by a proper table. "It ends at the first refusal; what was done before
-// stands."
+// The edits of a list without a fault, made on a document with shape that has no fault of 11 or 12, by a proper table. "It ends at the first
+// refusal; what was done before stands." What is kept of the document's IDs and references goes along.
+fn go_on(
+    table: &[u64],
+    doc: &mut [u32],
+    used: usize,
+    list: &[u32],
+    counts: &mut [i32; paper::MOST_ELEMENTS],
+    new: &mut [u32],
+    field: &mut [u64],
+    referred: &mut [u16],
+) -> Listed
+    requires { ⌜ Begun (now table) (now doc) used (now list) (now new) ⌝ }
+    requires { ⌜ Keeps (now table) (now field) (now referred) (toks (take used (now doc))) ⌝ }
+    ensures { λ r. ⌜ Ended (now (table .entry)) (now (doc .entry)) used (now (list .entry)) (now (counts .entry)) (now (doc .exit)) (now (counts .exit)) r ⌝ }
+{
+    let mut last = refused(paper::DONE, 0, used);
+    let mut done: u32 = 0;
+    let mut at: usize = 0;
+    while at < list.len() {
+        let e = edit_at(list, at);
+        let from = e.from;
+        let to = e.to;
+        last = kept_edit(
+            table,
+            doc,
+            last.used,
+            e.operation,
+            e.place as usize,
+            &list[from..to],
+            counts,
+            new,
+            field,
+            referred,
+        );
+        if last.number != paper::DONE {
+            return Listed { last, done };
+        }
+        done += 1;
+        at = to;
+    }
+    Listed { last, done }
+}
+
+// .. from a place of a list on, where nothing is kept yet: IDs and references are learned first. 65,536 bits and 65,536 counts are cleared for it.
+fn learn_and_go_on(
+    table: &[u64],
+    doc: &mut [u32],
+    used: usize,
+    list: &[u32],
+    from: usize,
+    counts: &mut [i32; paper::MOST_ELEMENTS],
+    new: &mut [u32],
+) -> Listed
+    requires { ⌜ Begun (now table) (now doc) used (drop from (now list)) (now new) × (from ≤ length (now list)) ⌝ }
+    ensures { λ r. ⌜ Ended (now (table .entry)) (now (doc .entry)) used (drop from (now (list .entry))) (now (counts .entry)) (now (doc .exit)) (now (counts .exit)) r ⌝ }
+{
+    let mut field = [0u64; WORDS];
+    let mut referred = [0u16; VALUES];
+    learn(table, &doc[..used], &mut field, &mut referred);
+    go_on(
+        table,
+        doc,
+        used,
+        &list[from..],
+        counts,
+        new,
+        &mut field,
+        &mut referred,
+    )
+}
+
+// The answer of a list's first edit, and the place behind it.
+struct First {
+    answer: Answer,
+    to: usize,
+}
+
+// The first edit of a list.
+fn first_edit(
+    table: &[u64],
+    doc: &mut [u32],
+    used: usize,
+    list: &[u32],
+    counts: &mut [i32; paper::MOST_ELEMENTS],
+    new: &mut [u32],
+) -> First
+    requires { ⌜ (proper (now table) ≡ true) × (shapeOf (now doc) used ≡ true) × (0 ≡ faultOf (splitList (now list))) × (length (now new) ≡ mostTokens) ⌝ }
+    ensures { λ r. ⌜ FirstOf (now (table .entry)) (now (doc .entry)) used (now (list .entry)) (now (counts .entry)) (now (doc .exit)) (now (counts .exit)) r ⌝ }
+{
+    let e = edit_at(list, 0);
+    let from = e.from;
+    let to = e.to;
+    let answer = next_edit(
+        table,
+        doc,
+        used,
+        e.operation,
+        e.place as usize,
+        &list[from..to],
+        counts,
+        new,
+    );
+    First { answer, to }
+}
+
+// The edits of a list without a fault, made on a document with shape, by a proper table: the first, and if it is done, those behind it. After a
+// done edit IDs and references have no fault.
 fn run(
     table: &[u64],
     doc: &mut [u32],
@@ -75,29 +150,23 @@ fn run(
     ensures { λ r. ⌜ listedOf r (now (doc .exit)) (now (counts .exit)) ≡ editList (now (table .entry)) (now (doc .entry)) used (now (list .entry)) (now (counts .entry)) ⌝ }
 {
     let mut new = [0u32; paper::MOST_TOKENS];
-    let mut last = refused(paper::DONE, 0, used);
-    let mut done: u32 = 0;
-    let mut at: usize = 0;
-    while at < list.len() {
-        let e = edit_at(list, at);
-        let from = e.from;
-        let to = e.to;
-        last = next_edit(
-            table,
-            doc,
-            last.used,
-            e.operation,
-            e.place as usize,
-            &list[from..to],
-            counts,
-            &mut new,
-        );
-        if last.number != paper::DONE {
-            return Listed { last, done };
-        }
-        done += 1;
-        at = to;
+    let first = first_edit(table, doc, used, list, counts, &mut new);
+    let answer = first.answer;
+    if answer.number != paper::DONE {
+        return Listed {
+            last: answer,
+            done: 0,
+        };
     }
+    if list.len() <= first.to {
+        return Listed {
+            last: answer,
+            done: 1,
+        };
+    }
+    let rest = learn_and_go_on(table, doc, answer.used, list, first.to, counts, &mut new);
+    let last = rest.last;
+    let done = rest.done + 1;
     Listed { last, done }
 }
 

@@ -1,91 +1,72 @@
--- `lists::run` meets its contract. The loop's invariant is `Going`; the measure is how many numbers are left. Assumes nothing.
-use Prim.Native.Nat.{_-_}
+-- `lists::run` meets its contract. Assumes nothing.
+use mathlib.Core.Path.{_∙_}
 use native.Mathlib.Omega.{arith}
+use Rattle.lists.specs.First.{first-refused, first-only, first-begun, first-more}
 use borrow.Author.Needs.{needs}
-use lib.ListN.{length}
-use Rattle.lists.specs.Going.{Going, going-none, going-end, going-within, going-few, going-refused, going-next, going-less}
 use Rattle.lists.proofs.run.Statement.{statement}
 use Rattle.lists.proofs.run.Tie as tie
 
-abbrev Inv-loop : tie.InvT-loop
-Inv-loop table doc₀ used list counts₀ new₀ last₀ done₀ at₀ doc counts new last done at = Going table doc₀ used list counts₀ doc counts new last done at
+slice-aggregate-first-edit : tie.Need-slice-aggregate-first-edit
+slice-aggregate-first-edit c = search needs
 
-abbrev μ-loop : tie.MeasureT-loop
-μ-loop table doc₀ used list counts₀ new₀ last₀ done₀ at₀ doc counts new last done at = length list - at
+first-edit-requires : tie.Need-first-edit-requires
+first-edit-requires c κs = search needs
 
-refused-requires : tie.Need-refused-requires Inv-loop μ-loop
-refused-requires c κs = search needs
+same-length : tie.Need-same-length
+same-length c = c .before .before .before .before .before .before .first-edit .kept .1 .0
 
-loop-holds : tie.Need-loop-holds Inv-loop μ-loop
-loop-holds c = search (needs, going-none)
-
-edit-at-requires : tie.Need-edit-at-requires Inv-loop μ-loop
-edit-at-requires c κs = search going-within
-
-cast-next-edit : tie.Need-cast-next-edit Inv-loop μ-loop
-cast-next-edit c = search needs
-
-mul-next-edit : tie.Need-mul-next-edit Inv-loop μ-loop
-mul-next-edit c = search needs
-
-sub-next-edit : tie.Need-sub-next-edit Inv-loop μ-loop
-sub-next-edit c = search needs
-
-part-next-edit-start : tie.Need-part-next-edit-start Inv-loop μ-loop
-part-next-edit-start c = search needs
-
-part-next-edit-end : tie.Need-part-next-edit-end Inv-loop μ-loop
-part-next-edit-end c = search needs
-
-slice-aggregate-next-edit : tie.Need-slice-aggregate-next-edit Inv-loop μ-loop
-slice-aggregate-next-edit c = search needs
-
-next-edit-requires : tie.Need-next-edit-requires Inv-loop μ-loop
-next-edit-requires c κs = search needs
-
-same-length : tie.Need-same-length Inv-loop μ-loop
-same-length c = search needs
-
-returns : tie.Need-returns Inv-loop μ-loop
+returns : tie.Need-returns
 returns c =
-    going-refused _ _ _ _ _ (c .before .before .before .before .before .before .before .before .before .before .before .before .before .loop .inv) (c .before .before .before .before .before .before .before .before .before .before .before .before .loop-test .taken) (c .before .before .before .before .before .before .before .before .before .before .before .edit-at .ensures) (c .before .before .before .before .before .next-edit .ensures) (λ z. absurd (omega (arith, c .if1 .taken)))
+    let s = c .before .before .before .before .before .before .before .before .before .before .before .before .before in
+    let a = s .args in
+    let e = c .before .before .before .before .before .before in
+    first-refused (a .table .now) (a .doc .now) (a .used) (a .list .now) (a .counts .now) (s .pre .0) (s .pre .1) (s .pre .2) (e .first-edit .ensures) (λ z. absurd (omega (arith, c .if1 .taken)))
 
-add-done : tie.Need-add-done Inv-loop μ-loop
-add-done c = search (needs, going-few)
+same-length-2 : tie.Need-same-length-2
+same-length-2 c = c .before .before .before .before .before .before .before .before .first-edit .kept .1 .0
 
-loop-less : tie.Need-loop-less Inv-loop μ-loop
-loop-less c =
-    omega (arith, going-less _ _ _ _ _ (c .before .before .before .before .before .before .before .before .before .before .before .before .before .loop .inv) (c .before .before .before .before .before .before .before .before .before .before .before .before .loop-test .taken) (c .before .before .before .before .before .before .before .before .before .before .before .edit-at .ensures), c .before .before .before .before .before .before .before .before .before .before .before .before .loop-test .taken)
+returns-2 : tie.Need-returns-2
+returns-2 c =
+    let s = c .before .before .before .before .before .before .before .before .before .before .before .before .before .before .before in
+    let a = s .args in
+    let e = c .before .before .before .before .before .before .before .before in
+    first-only (a .table .now) (a .doc .now) (a .used) (a .list .now) (a .counts .now) (s .pre .0) (s .pre .1) (s .pre .2) (e .first-edit .ensures) (c .before .before .if1 .left) (e .first-edit .kept .1 .0) (c .if2 .taken)
 
-loop-again : tie.Need-loop-again Inv-loop μ-loop
-loop-again c = search going-next
+slice-aggregate-learn-and-go-on : tie.Need-slice-aggregate-learn-and-go-on
+slice-aggregate-learn-and-go-on c = search needs
 
-same-length-2 : tie.Need-same-length-2 Inv-loop μ-loop
-same-length-2 c = search needs
+learn-and-go-on-requires : tie.Need-learn-and-go-on-requires
+learn-and-go-on-requires c κs =
+    let s = c .before .before .before .before .before .before .before .before .before .before .before .before .before .before .before .before .before .before in
+    let a = s .args in
+    let e = c .before .before .before .before .before .before .before .before .before .before .before in
+    (first-begun (a .table .now) (a .doc .now) (a .used) (a .list .now) (a .counts .now) (s .pre .0) (s .pre .1) (s .pre .2) (e .first-edit .ensures) (c .before .before .before .before .before .if1 .left) (e .first-edit .kept .1 .0) (c .before .before .before .if2 .left) (search needs), omega (arith, c .before .before .before .if2 .left))
 
-returns-2 : tie.Need-returns-2 Inv-loop μ-loop
-returns-2 c = search going-end
+add-done : tie.Need-add-done
+add-done c = omega (arith, c .before .before .before .before .before .learn-and-go-on .ensures .few)
+
+same-length-3 : tie.Need-same-length-3
+same-length-3 c = c .before .before .before .before .before .learn-and-go-on .kept .1 .0 ∙ c .before .before .before .before .before .before .before .before .before .before .before .before .before .before .before .before .before .first-edit .kept .1 .0
+
+returns-3 : tie.Need-returns-3
+returns-3 c =
+    let s = c .before .before .before .before .before .before .before .before .before .before .before .before .before .before .before .before .before .before .before .before .before .before .before .before in
+    let a = s .args in
+    let e = c .before .before .before .before .before .before .before .before .before .before .before .before .before .before .before .before .before in
+    first-more (a .table .now) (a .doc .now) (a .used) (a .list .now) (a .counts .now) (s .pre .0) (s .pre .1) (s .pre .2) (e .first-edit .ensures) (c .before .before .before .before .before .before .before .before .before .before .before .if1 .left) (e .first-edit .kept .1 .0) (c .before .before .before .before .before .before .before .before .before .if2 .left) (c .before .before .before .before .before .learn-and-go-on .ensures)
 
 pub run-spec : {M : Type 1} → statement M
 run-spec =
     tie.close
     (tie.spec
-    Inv-loop
-    μ-loop
-    refused-requires
-    loop-holds
-    edit-at-requires
-    cast-next-edit
-    mul-next-edit
-    sub-next-edit
-    part-next-edit-start
-    part-next-edit-end
-    slice-aggregate-next-edit
-    next-edit-requires
+    slice-aggregate-first-edit
+    first-edit-requires
     same-length
     returns
-    add-done
-    loop-less
-    loop-again
     same-length-2
-    returns-2)
+    returns-2
+    slice-aggregate-learn-and-go-on
+    learn-and-go-on-requires
+    add-done
+    same-length-3
+    returns-3)

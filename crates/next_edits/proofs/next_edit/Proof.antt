@@ -1,11 +1,11 @@
--- `lists::next_edit` meets its contract. Assumes nothing.
+-- `next_edits::next_edit` meets its contract. Assumes nothing.
 use native.Mathlib.Omega.{arith}
 use Rattle.form.specs.Form.{shaped-few, shaped-long}
 use Rattle.edits.specs.Outcomes.{ready-few, ready-room, ready-long, ready-within, ready-at, ready-front, ready-comes, ready-under, ready-inner}
-use Rattle.lists.specs.Single.{next-form, next-counts, next-put, next-fault, next-done}
+use Rattle.next_edits.specs.Single.{next-form, next-counts, next-put, next-fault, next-done}
 use borrow.Author.Needs.{needs}
-use Rattle.lists.proofs.next_edit.Statement.{statement}
-use Rattle.lists.proofs.next_edit.Tie as tie
+use Rattle.next_edits.proofs.next_edit.Statement.{statement}
+use Rattle.next_edits.proofs.next_edit.Tie as tie
 
 form-of-requires : tie.Need-form-of-requires
 form-of-requires c κs = search needs

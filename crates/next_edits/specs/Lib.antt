@@ -1,0 +1,5 @@
+-- One edit of a list.
+-- What it comes to
+pub mod Single
+-- What is kept after it
+pub mod Kept
