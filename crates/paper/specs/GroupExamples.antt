@@ -89,3 +89,9 @@ not-begun = refl
 pub second-short : asked panel (replicate 19 5) ≡ refused 5 0 0 (replicate 19 5)
 unfolding all-open
 second-short = refl
+
+-- the last document is judged whole: the panel has lost its ID, which is required (8, at its start)
+pub inside-judged : asked (5 ∷ 3 ∷ 1 ∷ 12 ∷ []) lent
+    ≡ refused 8 3 0 (1 ∷ 4 ∷ 61 ∷ 9 ∷ 17 ∷ 243 ∷ 2 ∷ 2 ∷ 25 ∷ 20 ∷ 165 ∷ 2 ∷ 2 ∷ 0 ∷ 0 ∷ replicate 7 5)
+unfolding all-open
+inside-judged = refl
