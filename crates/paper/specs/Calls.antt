@@ -1,4 +1,4 @@
--- The ten calls, each by the outcome that it has for what it is given: an outcome is the answer and every place of lent memory
+-- The calls, each by the outcome that it has for what it is given: an outcome is the answer and every place of lent memory
 -- after the call. The contracts of the calls are written with these names. Assumes nothing.
 use mathlib.Core.Path.{_≡_}
 use mathlib.Core.List.{List}

@@ -1,5 +1,5 @@
 -- Every promise of item 4 that is proved: a line for each statement, with the proof that it cites. Those of the calls are proved of any
--- nine that allow no outcome but the paper's. Assumes nothing.
+-- calls that allow no outcome but the paper's. Assumes nothing.
 use mathlib.Core.Path.{sym, _∙_}
 use mathlib.Core.Logic.{inl, inr, Iff·trans}
 use mathlib.Core.List.{[]}
