@@ -16,11 +16,11 @@ use lib.Bits.{bit_and, bit_or, and_zero_r, and_le_r, or_lt}
 use Rattle.paper.specs.Basics.{all, distinct}
 use Rattle.paper.specs.Sets.{bit, when}
 use Rattle.paper.specs.Table.{chosen, within}
-use Rattle.paper_laws.specs.Words.{bit_when, bit_zero, bit_or, bit_and, bit_one}
+use Rattle.paper_laws.specs.Words.{bit_when, bit_zero, bit_of_or, bit_of_and, bit_one}
 use Rattle.paper_laws.specs.Chosen.{Free, distinct_iff}
 use Rattle.paper_laws.specs.Basics.{every_iff}
 use Rattle.basic_laws.specs.Bools.{clash, same_test, both}
-use Rattle.sets.specs.Chosen.{Small, chosen_none, chosen_take, chosen_small}
+use Rattle.sets.specs.Chosen.{IsSmall, chosen_none, chosen_take, chosen_small}
 use Rattle.ambiguity.specs.Unambiguous.{is_unambiguous, Bounded, Low, Twice, Places}
 
 -- ---- tests
@@ -65,18 +65,18 @@ module _ {n : ℕ} {names : List ℕ} {seen twice i : ℕ} (r : Repeats n names 
       this = ap (λ w. bit w (get_or names i 0)) e ∙ bit_one (get_or names i 0) (get_or names i 0) ∙ eq-eqb (get_or names i 0) (get_or names i 0) refl
 
       once : (k : ℕ) → k < i + 1 → bit (bit_or seen name) (get_or names k 0) ≡ true
-      once k l = bit_or seen name (get_or names k 0) ∙ elim (dec_lt k i) [
+      once k l = bit_of_or seen name (get_or names k 0) ∙ elim (dec_lt k i) [
         | yes m ↦ or_left (bit seen (get_or names k 0)) (bit name (get_or names k 0)) (r.once k m)
         | no m ↦ let c : k ≡ i = omega arith in or_right (bit seen (get_or names k 0)) (bit name (get_or names k 0)) (rw c this)
       ]
 
       again : Twice (i + 1) names (bit_or twice (bit_and seen name))
-      again j k l m s = let a : ℕ = get_or names k 0 in bit_or twice (bit_and seen name) a ∙ elim (dec_lt k i) [
+      again j k l m s = let a : ℕ = get_or names k 0 in bit_of_or twice (bit_and seen name) a ∙ elim (dec_lt k i) [
         | yes o ↦ or_left (bit twice a) (bit (bit_and seen name) a) (r.again j k l o s)
         | no o ↦
             let c : k ≡ i = omega arith in
             let b : bit seen a ≡ true = ap (bit seen) (sym s) ∙ r.once j (omega arith) in
-            or_right (bit twice a) (bit (bit_and seen name) a) (bit_and seen name a ∙ both b (rw c this))
+            or_right (bit twice a) (bit (bit_and seen name) a) (bit_of_and seen name a ∙ both b (rw c this))
       ]
 
 -- ---- their places
@@ -104,7 +104,7 @@ module _ {set n : ℕ} {names : List ℕ} {found i : ℕ} (p : Placed set n name
           go false = pow_pos (suc i)
 
       each : (k : ℕ) → k < i + 1 → bit set (get_or names k 0) ≡ true → bit (bit_or found mark) k ≡ true
-      each k l m = bit_or found mark k ∙ elim (dec_lt k i) [
+      each k l m = bit_of_or found mark k ∙ elim (dec_lt k i) [
         | yes o ↦ or_left (bit found k) (bit mark k) (p.places.each k o m)
         | no o ↦ let c : k ≡ i = omega arith in or_right (bit found k) (bit mark k) (rw (g, f, e, c)
             (bit_when (bit set (get_or names i 0)) (2 ^ i) i
@@ -136,11 +136,11 @@ module _ {n : ℕ} {names : List ℕ} (b : n ≤ length names) {r : ℕ} (s : Sh
       let (i, d) = at k h in
       let (i', d') = at j (omega arith) in
       let (x, y) = s.both j k l i (sym d' ∙ e ∙ d) in
-      f j k l h (bit_and w r j ∙ both p x) (bit_and w r k ∙ both q y) e
+      f j k l h (bit_of_and w r j ∙ both p x) (bit_of_and w r k ∙ both q y) e
 
   of : Free w (take n names) → Free (bit_and w r) (take n names)
   of f j k l h p q e =
-      f j k l h ((and-eq-true_iff (bit w j) (bit r j)).0 (sym (bit_and w r j) ∙ p)).0 ((and-eq-true_iff (bit w k) (bit r k)).0 (sym (bit_and w r k) ∙ q)).0 e
+      f j k l h ((and-eq-true_iff (bit w j) (bit r j)).0 (sym (bit_of_and w r j) ∙ p)).0 ((and-eq-true_iff (bit w k) (bit r k)).0 (sym (bit_of_and w r k) ∙ q)).0 e
 
   walk_same : distinct (chosen (bit_and w r) names) ≡ distinct (chosen w (take n names))
   walk_same =
@@ -190,7 +190,7 @@ module _ {n : ℕ} {names follow : List ℕ} (b : Bounded n names follow) where
       each w = sym (walk_same room none w) ∙ rw (and_zero_r w) (ap distinct (chosen_none names))
 
   module _ {twice r : ℕ} (t : Twice n names twice) (p : Places twice n names r) where
-    pub walk_small : (w : ℕ) → Small (chosen (bit_and w r) names) ≡ true
+    pub walk_small : (w : ℕ) → IsSmall (chosen (bit_and w r) names) ≡ true
     walk_small w = chosen_small n 64 (bit_and w r) names (walk_fits room (sharing t p) w) (le_refl 64) b.low
 
     walked : (w : ℕ) {d : Bool} → d ≡ distinct (chosen (bit_and w r) names) → P w ≡ d

@@ -13,8 +13,8 @@ use Rattle.basic_laws.specs.Bools.{same_test}
 use Rattle.basic_laws.specs.Tests.{and_iff, tests}
 use Rattle.content_laws.specs.Names.{length_names}
 use Rattle.content_laws.specs.Below.{any_iff}
-use Rattle.content_laws.specs.Words.{first_word, follow_word}
-use Rattle.sets.specs.Chosen.{Small}
+use Rattle.content_laws.specs.Words.{first_word_lem, follow_word_lem}
+use Rattle.sets.specs.Chosen.{IsSmall}
 
 -- neither the set of firsts nor any follow set holds two occurrences of one name
 abbrev pub is_unambiguous : ℕ → List ℕ → List ℕ → Bool
@@ -25,7 +25,7 @@ pub record Bounded (count : ℕ) (names follow : List ℕ) : Type 0 where
   pub few : count ≤ most_names
   pub names_long : length names ≡ most_names
   pub follow_long : length follow ≡ most_names
-  pub low : Small (take count names) ≡ true
+  pub low : IsSmall (take count names) ≡ true
 
 -- ---- names that stand twice
 
@@ -33,7 +33,7 @@ pub record Bounded (count : ℕ) (names follow : List ℕ) : Type 0 where
 pub record Low (n : ℕ) (names : List ℕ) : Type 0 where
   pub few : n ≤ most_names
   pub long : n ≤ length names
-  pub low : Small (take n names) ≡ true
+  pub low : IsSmall (take n names) ≡ true
 
 -- r holds each name that stands at two of the first n places
 abbrev pub Twice : ℕ → List ℕ → ℕ → Type 0
@@ -105,9 +105,9 @@ module _ (P : ℕ → Bool) (f : ℕ → ℕ) where
 -- The test on an expression's own words and names is the test for ambiguity.
 pub unambiguous_iff : (e : Expr) → is_unambiguous (first_word 0 e) (names e) (map (follow_word 0 e) (from 0 (count e))) ≡ not (ambiguous e)
 unambiguous_iff e =
-    ap₂ ◌&&◌ (set_unambiguous e (first 0 e) (first_word 0 e) (first_word 0 e))
+    ap₂ ◌&&◌ (set_unambiguous e (first 0 e) (first_word 0 e) (first_word_lem 0 e))
     (all_any (λ w. distinct (chosen w (names e))) (follow_word 0 e) (λ k. clash e (follow 0 e k))
-    (λ k. set_unambiguous e (follow 0 e k) (follow_word 0 e k) (follow_word 0 e k)) (count e))
+    (λ k. set_unambiguous e (follow 0 e k) (follow_word 0 e k) (follow_word_lem 0 e k)) (count e))
     ∙ neither (clash e (first 0 e)) (any (λ k. clash e (follow 0 e k)) (count e))
   where
     neither : (a b : Bool) → (not a && not b) ≡ not (a || b)

@@ -25,9 +25,9 @@ check_never_7 table buffer used o e = by_table (proper table) refl e
     by_table true p e = by_shape p (shape_of buffer used) refl e
     by_table false p e = rw e (λ z. absurd (omega arith))
 
-pub check_answers : (table buffer : List ℕ) (used : ℕ) (o : Answer) → o ≡ check table buffer used → Answers check_answers o.0 o.1
+pub check_answers_lem : (table buffer : List ℕ) (used : ℕ) (o : Answer) → o ≡ check table buffer used → Answers check_answers o.0 o.1
 unfolding check checking
-check_answers table buffer used o e = by_table (proper table) e
+check_answers_lem table buffer used o e = by_table (proper table) e
   where
     at : (n : ℕ) → T (elem n check_answers) → T (between 7 12 n) → n ≢ 7 → Answers check_answers n o.1
     at n t b d = record { OneOf = t; no_place = λ c. absurd (c b) }

@@ -25,9 +25,9 @@ comparing_gives old new e buffer = go (ltb e old.elements && ltb e new.elements)
     go true true true = record { OneOf = tt; no_place = λ c. refl }
     go true true false = answered_gives (shortest_lost old new e) buffer
 
-pub compare_answers : (old new : List ℕ) (e : ℕ) (buffer : List ℕ) (o : Compared) → Compares old new e buffer o → Answers compare_answers o.number 0
+pub compare_answers_lem : (old new : List ℕ) (e : ℕ) (buffer : List ℕ) (o : Compared) → Compares old new e buffer o → Answers compare_answers o.number 0
 unfolding compare
-compare_answers old new e buffer o d = rw d (go (proper old) (proper new))
+compare_answers_lem old new e buffer o d = rw d (go (proper old) (proper new))
   where
     go : (a b : Bool) → Given (cond (not a) (refused 13 buffer) (cond (not b) (refused 13 buffer) (comparing (of_table old) (of_table new) e buffer)))
     go false b = record { OneOf = tt; no_place = λ c. refl }

@@ -61,10 +61,10 @@ answered_rejects zero a m t (inr j) = go (eqb a.0 0)
         at n t b = record { OneOf = t; no_place = λ c. absurd (c b) }
 answered_rejects (suc n) a m t j = record { OneOf = each (λ k. T (elem k edit_answers)) (0 ∷ 4 ∷ 5 ∷ 6 ∷ 15 ∷ []) (tt, (tt, (tt, (tt, (tt, tt))))) (suc n) t; no_place = λ c. refl }
 
-pub edit_answers : (table buffer : List ℕ) (used : ℕ) (q : Request) (second : List ℕ) (counts : List ℤ) (o : Outcome)
+pub edit_answers_lem : (table buffer : List ℕ) (used : ℕ) (q : Request) (second : List ℕ) (counts : List ℤ) (o : Outcome)
     → Performs table buffer used q second counts o → Answers edit_answers o.number o.place
 unfolding edit edit_by editing
-edit_answers table buffer used q second counts o e =
+edit_answers_lem table buffer used q second counts o e =
     finish (cond (proper table) (edit_by (of_table table) buffer used q second counts) (rejected 13 0)) (by_table (proper table)) e
   where
     by_shape : (b : Bool) → Rejects (cond b (editing (of_table table) (length buffer) (length second) q (take used buffer) counts) (rejected 4 0))

@@ -32,17 +32,17 @@ worded_refuses f text buffer (ok ds t) e = go (leb (length (f ds)) (length buffe
     go true = tt
     go false = tt
 
-pub import_answers : (text buffer : List ℕ) (o : Counted) → Imports text buffer o → Answers import_answers o.number 0
+pub import_answers_lem : (text buffer : List ℕ) (o : Counted) → Imports text buffer o → Answers import_answers o.number 0
 unfolding import
-import_answers text buffer o e = counted_answers of_import (worded schema_file (declared text) buffer) buffer o (worded_refuses schema_file text buffer (declared text) refl) e
+import_answers_lem text buffer o e = counted_answers of_import (worded schema_file (declared text) buffer) buffer o (worded_refuses schema_file text buffer (declared text) refl) e
 
-pub names_answers : (text buffer : List ℕ) (o : Counted) → Names text buffer o → Answers names_answers o.number 0
+pub names_answers_lem : (text buffer : List ℕ) (o : Counted) → Names text buffer o → Answers names_answers o.number 0
 unfolding names
-names_answers text buffer o e = counted_answers of_import (worded names_of (declared text) buffer) buffer o (worded_refuses names_of text buffer (declared text) refl) e
+names_answers_lem text buffer o e = counted_answers of_import (worded names_of (declared text) buffer) buffer o (worded_refuses names_of text buffer (declared text) refl) e
 
-pub spot_answers : (text : List ℕ) (o : Spot) → Spots text o → Answers spot_answers o.number 0
+pub spot_answers_lem : (text : List ℕ) (o : Spot) → Spots text o → Answers spot_answers o.number 0
 unfolding spot
-spot_answers text o e = rw e (go (declared text) refl)
+spot_answers_lem text o e = rw e (go (declared text) refl)
   where
     go : (r : Read (List Declaration)) → declared text ≡ r → Answers spot_answers (spot_in text r).number 0
     go (stop k t) p = record { OneOf = refusal spot_answers tt tt text t k p; no_place = λ c. refl }

@@ -1,1 +1,2 @@
 // Laws of answers, in specs/: which numbers each call can give. There is no code here.
+#![tactic(auto)]

@@ -24,8 +24,8 @@ StatusAt kind met file at r = Ended (status_from kind met (drop at file)) file r
 -- ---- the largest
 
 module _ (kind met : ℕ) where
-  pub most_fixed : eqb kind 0 && ltb met most_fixed ≡ true → 2 ≡ most_status kind met
-  most_fixed t = rw t
+  pub most_fixed_lem : eqb kind 0 && ltb met most_fixed ≡ true → 2 ≡ most_status kind met
+  most_fixed_lem t = rw t
 
   pub most_implied : eqb kind 0 && ltb met most_fixed ≡ false → 1 ≡ most_status kind met
   most_implied t = rw t

@@ -1,6 +1,8 @@
 // The attribute list of an element, read from a schema file: which attributes are allowed, which are required, and of which kind they
 // are, each as a set; and those that are fixed, as entries behind those of the elements before. A set is a word, bit k for attribute k.
 // Assumes nothing.
+#![tactic(auto)]
+
 ghost use Rattle.std.specs.Prelude.{◌≡◌, [], ◌∷◌, ◌++◌, ◌≤◌, ◌<◌, length};
 ghost use Rattle.paper.specs.Basics.{most_attributes};
 ghost use Rattle.paper.specs.Schema.{most_status};
@@ -33,7 +35,7 @@ fn most_status(kind: u32, met: u32) -> u32
 }
 
 // A status that was read: 0, what it is, its value and the place after both; or the refusal's number.
-#[derive(Drop)]
+#[derive(Clone, Copy)]
 struct Stated {
     number: u32,
     next: usize,
@@ -85,7 +87,7 @@ fn status_at(file: &[u8], at: usize, kind: u32, met: u32) -> Stated
 // ---- an attribute
 
 // An attribute that was read: 0, what it is and the place after it; or the refusal's number.
-#[derive(Drop)]
+#[derive(Clone, Copy)]
 struct Declared {
     number: u32,
     next: usize,
@@ -142,7 +144,7 @@ fn attribute_at(file: &[u8], at: usize, low: u32, had: bool, met: u32) -> Declar
 
 // Attributes that were read: 0, the place after them, the least number that the next one may have, whether an ID was met, and
 // the five sets; or the refusal's number.
-#[derive(Drop)]
+#[derive(Clone, Copy)]
 pub struct Attributes {
     pub number: u32,
     pub next: usize,

@@ -16,7 +16,7 @@ use Rattle.paper.specs.Rules.{Rules, of_table}
 use Rattle.paper.specs.Judgement.{present, each_attr, attributes_good}
 use Rattle.basic_laws.specs.Bools.{clash}
 use Rattle.basic_laws.specs.Numbers.{eqb_sym}
-use Rattle.paper_laws.specs.Words.{bit_or, bit_one, bit_zero, bit_past}
+use Rattle.paper_laws.specs.Words.{bit_of_or, bit_one, bit_zero, bit_past}
 use Rattle.shape_laws.specs.Ends.{rest_next, rest_none}
 use Rattle.tokens.specs.Sorts.{attr_tok, value_tok}
 use Rattle.tokens.specs.Theorems.{attr_iff, value_iff}
@@ -172,7 +172,7 @@ module _ (required allowed idrefs : ℕ) (m : Met) where
     where
       more : (k : ℕ) → bit m.set k || (eqb a k || present k h) ≡ bit (bit_or m.set (2 ^ a)) k || present k h
       more k = sym (or_assoc (bit m.set k) (eqb a k) (present k h))
-          ∙ ap (λ b. b || present k h) (ap (λ b. bit m.set k || b) (eqb_sym a k ∙ sym (bit_one a k)) ∙ sym (bit_or m.set (2 ^ a) k))
+          ∙ ap (λ b. b || present k h) (ap (λ b. bit m.set k || b) (eqb_sym a k ∙ sym (bit_one a k)) ∙ sym (bit_of_or m.set (2 ^ a) k))
 
   shows_attribute : (a : ℕ) (h : List Tok) → shows required allowed idrefs m (Attr a ∷ h) ≡ shows required allowed idrefs (attribute_of allowed idrefs m a) h
   unfolding shows

@@ -3,6 +3,8 @@
 // One pass over the attributes and values behind a start. It notes which attributes were met and how many values the last one still
 // takes, and tells where it ended. Only where the table has fixed attributes, a second one looks at their values. The table is a proper
 // one, and nothing is written. Assumes nothing.
+#![tactic(auto)]
+
 ghost use Rattle.std.specs.Prelude.{◌≡◌, true, ◌≤◌, ◌<◌, length, get_or};
 ghost use Rattle.paper.specs.Table.{proper};
 ghost use Rattle.attributes.specs.Attributes.{attribute_of, value_of, finish, Listed, Judged};
@@ -15,7 +17,7 @@ use tokens::{is_attribute, is_value, number};
 
 // What the attributes and values passed so far leave: the attributes met; how many values the last one still takes, 2 for any number;
 // and whether each was as it must be.
-#[derive(Drop)]
+#[derive(Clone, Copy)]
 struct Met {
     set: u64,
     takes: u32,
@@ -23,7 +25,7 @@ struct Met {
 }
 
 // Whether the attributes are as they must be, and the place behind them.
-#[derive(Drop)]
+#[derive(Clone, Copy)]
 pub struct Front {
     pub good: bool,
     pub after: usize,

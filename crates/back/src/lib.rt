@@ -3,6 +3,8 @@
 // `need` and `note` are called with an edit in form that cuts `cut` tokens at `at`, before the document is overwritten. The places of the
 // second buffer behind the inverse keep their contents.
 // Assumes nothing.
+#![tactic(auto)]
+
 ghost use Rattle.std.specs.Prelude.{◌≡◌, ◌≤◌, length};
 ghost use Rattle.paper.specs.Basics.{most_tokens};
 ghost use Rattle.paper.specs.Back.{inverse, needs, noted};

@@ -26,6 +26,7 @@ and_iff false b = (λ t. absurd t, λ t. t.0)
 -- put together
 pub or_l : (a b : Bool) → T a → T (a || b)
 or_l true b t = t
+or_l false b t = elim t [ ]
 
 pub or_r : (a b : Bool) → T b → T (a || b)
 or_r true b t = tt
@@ -33,5 +34,6 @@ or_r false b t = t
 
 pub both : (a b : Bool) → T a → T b → T (a && b)
 both true b s t = t
+both false b s t = elim s [ ]
 
 pub ruleset tests = (or_l, or_r, both)

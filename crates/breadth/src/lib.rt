@@ -3,6 +3,8 @@
 // Each pair is met once, by the lowest of the shortest sequences that lead to it, since names are tried rising. The first pair at which
 // the old content may end and the new one may not gives the answer. Nothing but the sequence buffer is written, and that only then.
 // Assumes nothing.
+#![tactic(auto)]
+
 ghost use Rattle.std.specs.Prelude.{◌≡◌, ◌+◌, ◌≤◌, length, get_or};
 ghost use Rattle.paper.specs.Basics.{sequence_places};
 ghost use Rattle.paper.specs.Inclusion.{answered};
@@ -16,7 +18,7 @@ use paper::SEQUENCE_PLACES;
 use trail::spell;
 
 // 1 and 0 if nothing is lost; 0 and the length of the sequence if one is.
-#[derive(Drop)]
+#[derive(Clone, Copy)]
 pub struct Found {
     pub takes_all: u32,
     pub length: u32,

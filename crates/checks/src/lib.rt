@@ -1,6 +1,8 @@
 // The check that writes counts, and the question that is answered from them (item 7).
 //
 // Assumes nothing.
+#![tactic(auto)]
+
 ghost use Rattle.paper.specs.Calls.{Checks, Tells};
 
 use counts::{count, read};

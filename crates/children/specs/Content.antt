@@ -15,7 +15,7 @@ use Rattle.shape_laws.specs.Bridge.{length_toks}
 use Rattle.stops.specs.declared.Stop.{Stop}
 use Rattle.stops.specs.declared.Walk.{Walk}
 use Rattle.stops.specs.declared.Stop.TheVariants.{At}
-use Rattle.stops.specs.Stop.{stop_by, is_at, content_stop, only_texts, texts_stop, texts_stop, model_stop, good_from, begun_from, model_stop, Walked, walked_as}
+use Rattle.stops.specs.Stop.{stop_by, is_at, content_stop, only_texts, texts_stop, texts_stop_lem, model_stop, good_from, begun_from, model_stop_lem, Walked, walked_as}
 
 -- no text, and one at most
 no_texts : (k : List Tok) → only_texts 0 k ≡ null k
@@ -27,14 +27,14 @@ no_texts (Attr m ∷ k) = refl
 no_texts (Value m ∷ k) = refl
 no_texts (Bad ∷ k) = refl
 
-text_or_none : (k : List Tok) → only_texts 1 k ≡ text_or_none k
-text_or_none [] = refl
-text_or_none (Text m ∷ k) = no_texts k
-text_or_none (Start m ∷ k) = refl
-text_or_none (End ∷ k) = refl
-text_or_none (Attr m ∷ k) = refl
-text_or_none (Value m ∷ k) = refl
-text_or_none (Bad ∷ k) = refl
+text_or_none_lem : (k : List Tok) → only_texts 1 k ≡ text_or_none k
+text_or_none_lem [] = refl
+text_or_none_lem (Text m ∷ k) = no_texts k
+text_or_none_lem (Start m ∷ k) = refl
+text_or_none_lem (End ∷ k) = refl
+text_or_none_lem (Attr m ∷ k) = refl
+text_or_none_lem (Value m ∷ k) = refl
+text_or_none_lem (Bad ∷ k) = refl
 
 module _ (table : List ℕ) (e : ℕ) {kind : ℕ} (ek : kind ≡ cell (block table e) kind_at) where
   abbrev R : Rules
@@ -52,11 +52,11 @@ module _ (table : List ℕ) (e : ℕ) {kind : ℕ} (ek : kind ≡ cell (block ta
       begun_is k = ap (λ x. content x (R.begins e) k) ek
 
   pub content_texts : (d : List Tok) (i : ℕ) {w : Walk} → kind < 2 → Walked (texts_stop kind i d) d w → Walked (content_stop (of_table table) e i d) d w
-  content_texts d i h er = walked_as er (texts_stop d kind i ∙ go kind h ∙ by_kind i d)
+  content_texts d i h er = walked_as er (texts_stop_lem d kind i ∙ go kind h ∙ by_kind i d)
     where
       go : (kind : ℕ) → kind < 2 → stop_by (only_texts kind) (only_texts kind) i zero d ≡ stop_by (content kind (R.Describes e)) (content kind (R.begins e)) i zero d
       go zero h = ap (λ f. stop_by f f i zero d) (λ j k. no_texts k j)
-      go (suc zero) h = ap (λ f. stop_by f f i zero d) (λ j k. text_or_none k j)
+      go (suc zero) h = ap (λ f. stop_by f f i zero d) (λ j k. text_or_none_lem k j)
       go (suc (suc n)) h = absurd (omega arith)
 
   pub content_model : (doc : List ℕ) (used i : ℕ) {b : List ℕ} {w : Walk} → 2 ≤ kind → used ≤ length doc → i ≤ used → b ≡ block table e
@@ -66,7 +66,7 @@ module _ (table : List ℕ) (e : ℕ) {kind : ℕ} (ek : kind ≡ cell (block ta
       let d : List Tok = drop i (toks (take used doc)) in
       let z : i + length d ≡ used = omega (arith, length-drop i (toks (take used doc)), length_toks doc used l) in
       walked_as er
-      (model_stop b used d start zero i z
+      (model_stop_lem b used d start zero i z
       ∙ ap₂ (λ good begun. stop_by good begun i zero d) (λ j k. good_is k j) (λ j k. begun_is k j)
       ∙ by_kind i d)
     where

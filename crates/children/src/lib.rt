@@ -2,6 +2,8 @@
 //
 // One pass over the children, which jumps from a child's start behind its end, counts them, and is left at the first with which no valid
 // content begins. Texts are counted, by `stops`; a model is run. The table is a proper one, and nothing is written. Assumes nothing.
+#![tactic(auto)]
+
 ghost use Rattle.std.specs.Prelude.{◌≡◌, true, ◌≤◌, ◌<◌, length, take, drop, get_or};
 ghost use Rattle.paper.specs.Basics.{most_tokens};
 ghost use Rattle.paper.specs.Tokens.{toks};

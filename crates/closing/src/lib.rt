@@ -2,6 +2,8 @@
 //
 // It holds of any tokens, with shape or without; what it asks is that lengths lie in the slices.
 // Assumes nothing.
+#![tactic(auto)]
+
 ghost use Rattle.std.specs.Prelude.{◌≡◌, ◌++◌, ◌≤◌, length, take, drop};
 ghost use Rattle.paper.specs.Basics.{most_tokens};
 ghost use Rattle.paper.specs.Tokens.{tok_of, toks};

@@ -68,9 +68,9 @@ found_out old new e s p q h k {x} {y} c t f u i j l d =
     ∙ (rw (p, q, lt-ltb e (get_or old 0 0) h, lt-ltb e (get_or new 0 0) k, ← c, not-false x t, ← f, not-false y u, le-ltb (length s) sequence_places l))
 
 -- what the search asks
-pub blocks_of : (old new : List ℕ) (e : ℕ) {a b : List ℕ} → proper old ≡ true → proper new ≡ true → e < get_or old 0 0 → e < get_or new 0 0
+pub blocks_of_lem : (old new : List ℕ) (e : ℕ) {a b : List ℕ} → proper old ≡ true → proper new ≡ true → e < get_or old 0 0 → e < get_or new 0 0
     → a ≡ block old e → b ≡ block new e → Blocks a b (get_or old 0 0)
-blocks_of old new e p q h k i j = record {
+blocks_of_lem old new e p q h k i j = record {
   old_ready = ready_table old e p h i;
   new_ready = ready_table new e q k j;
   new_elements = get_or new 0 0;
@@ -84,7 +84,7 @@ blocks_of old new e p q h k i j = record {
 pub held : {x : Bool} (t : Bool) → x ≡ t → not x ≡ false → t ≡ true
 held {x} t e h = sym e ∙ not-false x h
 
--- a proper table's first number is there, and Small; an element below it has a block
+-- a proper table's first number is there, and IsSmall; an element below it has a block
 pub has_first : (t : List ℕ) → proper t ≡ true → 0 < length t
 has_first t p = omega (arith, (table_parts t p).long)
 

@@ -1,6 +1,8 @@
 // "Will the new schema take our old patterns?": an element's content compared in two tables.
 //
 // The refusals in their order, then the search. A refused call writes nothing. Assumes nothing.
+#![tactic(auto)]
+
 ghost use Rattle.std.specs.Prelude.{◌≡◌, true, ◌<◌, get_or};
 ghost use Rattle.paper.specs.Table.{proper};
 ghost use Rattle.paper.specs.Rules.{of_table};
@@ -15,7 +17,7 @@ use table::{block_of, cell};
 
 // The answer's number; 1 if the new content takes all that the old one takes, else 0; and the length of the sequence that is lost.
 #[repr(C)]
-#[derive(Drop)]
+#[derive(Clone, Copy)]
 pub struct Compared {
     pub number: u32,
     pub takes_all: u32,

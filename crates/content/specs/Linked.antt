@@ -4,7 +4,7 @@ use Rattle.std.proofs.Common.{sym, ap, ap₂, ◌∙◌, arith, ext_get_or}
 use Rattle.std.specs.Int.Bits.{bit_or, or_zero_r}
 use Rattle.paper.specs.Expressions.{Expr, name, seq, alt, opt, count}
 use Rattle.paper.specs.Sets.{when, last, first_word, last_word, follow_word}
-use Rattle.content_laws.specs.Words.{last_word}
+use Rattle.content_laws.specs.Words.{last_word_lem}
 use Rattle.sets.specs.Union.{or_assoc}
 use Rattle.set_walks.specs.Joined.{joined, length_joined, joined_at}
 
@@ -64,7 +64,7 @@ module _ (b : ℕ) (e f : Expr) (l : List ℕ) where
   pub linked_seq : joined (last_word b e) (first_word mid f) both ≡ linked b (seq e f) l
   linked_seq = linked_ext b (seq e f) l _ (length_joined (last_word b e) (first_word mid f) both ∙ length_both) λ k h.
       joined_at (last_word b e) (first_word mid f) both k (omega (arith, length_both))
-      ∙ ap₂ (λ w c. bit_or w (when c (first_word mid f))) (both_at k h) (last_word b e k)
+      ∙ ap₂ (λ w c. bit_or w (when c (first_word mid f))) (both_at k h) (last_word_lem b e k)
       ∙ or_assoc (get_or l k 0) (bit_or (follow_word b e k) (follow_word mid f k)) (when (last b e k) (first_word mid f))
 
 -- from the last occurrences round to the first
@@ -72,7 +72,7 @@ pub linked_round : (b : ℕ) (e d : Expr) (l : List ℕ) → ((k : ℕ) → foll
     → joined (last_word b e) (first_word b e) (linked b e l) ≡ linked b d l
 linked_round b e d l same = linked_ext b d l _ (length_joined (last_word b e) (first_word b e) (linked b e l) ∙ length_linked b e l) λ k h.
     joined_at (last_word b e) (first_word b e) (linked b e l) k (omega (arith, length_linked b e l))
-    ∙ ap₂ (λ w c. bit_or w (when c (first_word b e))) (linked_at b e l k h) (last_word b e k)
+    ∙ ap₂ (λ w c. bit_or w (when c (first_word b e))) (linked_at b e l k h) (last_word_lem b e k)
     ∙ or_assoc (get_or l k 0) (follow_word b e k) (when (last b e k) (first_word b e))
     ∙ ap (bit_or (get_or l k 0)) (sym (same k))
 

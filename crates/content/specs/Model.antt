@@ -11,7 +11,7 @@ use Rattle.paper.specs.Schema.{expr_of}
 use Rattle.paper_laws.specs.Words.{none_zero}
 use Rattle.paper_laws.specs.Basics.{length_from}
 use Rattle.content_laws.specs.Within.{follow_within}
-use Rattle.content_laws.specs.Words.{follow_word}
+use Rattle.content_laws.specs.Words.{follow_word_lem}
 use Rattle.content.specs.declared.Model.{Model}
 use Rattle.content.specs.Linked.{or_from, linked}
 
@@ -66,7 +66,7 @@ module _ (f : ℕ → ℕ) where
 
 -- past e's occurrences nothing follows
 follow_past : (e : Expr) (j : ℕ) → count e ≤ j → follow_word 0 e j ≡ 0
-follow_past e j h = none_zero (follow_word 0 e j) λ k. follow_word 0 e j k ∙ no (follow 0 e j k) (λ t. let w = (follow_within 0 e j k t).0 in omega arith)
+follow_past e j h = none_zero (follow_word 0 e j) λ k. follow_word_lem 0 e j k ∙ no (follow 0 e j k) (λ t. let w = (follow_within 0 e j k t).0 in omega arith)
   where
     no : (b : Bool) → (T b → ⊥) → b ≡ false
     no true f = absurd (f tt)

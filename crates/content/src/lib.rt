@@ -2,6 +2,8 @@
 //
 // An operator stands before its parts, so an expression is read by recursion: n symbols are read at most n + 1 calls deep. A
 // set is a word, bit k for occurrence k. Assumes nothing.
+#![tactic(auto)]
+
 ghost use Rattle.std.specs.Prelude.{◌≡◌, length, replicate};
 ghost use Rattle.paper.specs.Basics.{most_names};
 ghost use Rattle.content.specs.Parts.{Got};
@@ -60,7 +62,7 @@ fn read(s: &[u8], at: usize, p: usize, follow: &mut [u64]) -> Part
 
 // A model that was read, if `ok`: how many occurrences there are, whether no child at all matches, and the sets of first and
 // last occurrences.
-#[derive(Drop)]
+#[derive(Clone, Copy)]
 pub struct Model {
     pub ok: bool,
     pub count: usize,

@@ -15,7 +15,7 @@ use Rattle.content_laws.specs.Useful.{useful, reached, reaches, reads_iff, nulla
 use Rattle.content_laws.specs.Ambiguity.{Clash, ambiguous_iff}
 use Rattle.content_laws.specs.Decide.{decides}
 use Rattle.content_laws.specs.Run.{run, accepts, accepts_iff, prefix_iff}
-use Rattle.content_laws.specs.Words.{first_word, last_word, follow_word, follow_fits}
+use Rattle.content_laws.specs.Words.{first_word_lem, last_word_lem, follow_word_lem, follow_fits}
 
 -- A word is e's exactly if it is the names of the occurrences of a marked word.
 pub marking : (e : Expr) (w : List ℕ) → Matches e w ↔ ((p : List ℕ) × Marked 0 e p × (map (name_at e) p ≡ w))
@@ -78,13 +78,13 @@ theorem_E = prefix_iff
 
 -- The sets as words, bit k for occurrence k: of n occurrences, each word has n bits.
 pub first_bits : (b : ℕ) (e : Expr) (k : ℕ) → bit (first_word b e) k ≡ first b e k
-first_bits = first_word
+first_bits = first_word_lem
 
 pub last_bits : (b : ℕ) (e : Expr) (k : ℕ) → bit (last_word b e) k ≡ last b e k
-last_bits = last_word
+last_bits = last_word_lem
 
 pub follow_bits : (b : ℕ) (e : Expr) (j k : ℕ) → bit (follow_word b e j) k ≡ follow b e j k
-follow_bits = follow_word
+follow_bits = follow_word_lem
 
 pub follow_width : (b : ℕ) (e : Expr) (j n : ℕ) → b + count e ≤ n → follow_word b e j < 2 ^ n
 follow_width = follow_fits

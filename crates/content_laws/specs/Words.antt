@@ -6,34 +6,34 @@ use Rattle.std.proofs.Math.Pow.{pow-lt}
 use Rattle.std.proofs.lemmas.Nat.{or_lt}
 use Rattle.paper.specs.Expressions.{Expr, name, seq, alt, opt, star, plus, count}
 use Rattle.paper.specs.Sets.{nullable, first, last, follow, bit, when, first_word, last_word, follow_word}
-use Rattle.paper_laws.specs.Words.{bit_or, bit_zero, bit_one, bit_when}
+use Rattle.paper_laws.specs.Words.{bit_of_or, bit_zero, bit_one, bit_when}
 
 -- ---- Glushkov's sets as words
 
-pub first_word : (b : ℕ) (e : Expr) (k : ℕ) → bit (first_word b e) k ≡ first b e k
-first_word b (name a) k = bit_one b k
-first_word b (seq e f) k = simp (bit_or, bit_when, first_word b e k, first_word (b + count e) f k)
-first_word b (alt e f) k = simp (bit_or, first_word b e k, first_word (b + count e) f k)
-first_word b (opt e) k = first_word b e k
-first_word b (star e) k = first_word b e k
-first_word b (plus e) k = first_word b e k
+pub first_word_lem : (b : ℕ) (e : Expr) (k : ℕ) → bit (first_word b e) k ≡ first b e k
+first_word_lem b (name a) k = bit_one b k
+first_word_lem b (seq e f) k = simp (bit_of_or, bit_when, first_word_lem b e k, first_word_lem (b + count e) f k)
+first_word_lem b (alt e f) k = simp (bit_of_or, first_word_lem b e k, first_word_lem (b + count e) f k)
+first_word_lem b (opt e) k = first_word_lem b e k
+first_word_lem b (star e) k = first_word_lem b e k
+first_word_lem b (plus e) k = first_word_lem b e k
 
-pub last_word : (b : ℕ) (e : Expr) (k : ℕ) → bit (last_word b e) k ≡ last b e k
-last_word b (name a) k = bit_one b k
-last_word b (seq e f) k = simp (bit_or, bit_when, last_word b e k, last_word (b + count e) f k)
-last_word b (alt e f) k = simp (bit_or, last_word b e k, last_word (b + count e) f k)
-last_word b (opt e) k = last_word b e k
-last_word b (star e) k = last_word b e k
-last_word b (plus e) k = last_word b e k
+pub last_word_lem : (b : ℕ) (e : Expr) (k : ℕ) → bit (last_word b e) k ≡ last b e k
+last_word_lem b (name a) k = bit_one b k
+last_word_lem b (seq e f) k = simp (bit_of_or, bit_when, last_word_lem b e k, last_word_lem (b + count e) f k)
+last_word_lem b (alt e f) k = simp (bit_of_or, last_word_lem b e k, last_word_lem (b + count e) f k)
+last_word_lem b (opt e) k = last_word_lem b e k
+last_word_lem b (star e) k = last_word_lem b e k
+last_word_lem b (plus e) k = last_word_lem b e k
 
-pub follow_word : (b : ℕ) (e : Expr) (j k : ℕ) → bit (follow_word b e j) k ≡ follow b e j k
-follow_word b (name a) j k = bit_zero k
-follow_word b (seq e f) j k =
-    simp (bit_or, bit_when, first_word (b + count e) f k, follow_word b e j k, follow_word (b + count e) f j k)
-follow_word b (alt e f) j k = simp (bit_or, follow_word b e j k, follow_word (b + count e) f j k)
-follow_word b (opt e) j k = follow_word b e j k
-follow_word b (star e) j k = simp (bit_or, bit_when, first_word b e k, follow_word b e j k)
-follow_word b (plus e) j k = simp (bit_or, bit_when, first_word b e k, follow_word b e j k)
+pub follow_word_lem : (b : ℕ) (e : Expr) (j k : ℕ) → bit (follow_word b e j) k ≡ follow b e j k
+follow_word_lem b (name a) j k = bit_zero k
+follow_word_lem b (seq e f) j k =
+    simp (bit_of_or, bit_when, first_word_lem (b + count e) f k, follow_word_lem b e j k, follow_word_lem (b + count e) f j k)
+follow_word_lem b (alt e f) j k = simp (bit_of_or, follow_word_lem b e j k, follow_word_lem (b + count e) f j k)
+follow_word_lem b (opt e) j k = follow_word_lem b e j k
+follow_word_lem b (star e) j k = simp (bit_of_or, bit_when, first_word_lem b e k, follow_word_lem b e j k)
+follow_word_lem b (plus e) j k = simp (bit_of_or, bit_when, first_word_lem b e k, follow_word_lem b e j k)
 
 -- ---- the words of n occurrences have n bits
 

@@ -1,1 +1,2 @@
 // The theory of content models, in specs/: see specs/Theorems.antt. There is no code here.
+#![tactic(auto)]

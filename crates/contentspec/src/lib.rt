@@ -1,5 +1,7 @@
 // The content of an element, read from a schema file into the element's block of a table: EMPTY, text only, or a content model, which is
 // taken if it is one expression of at most 64 names and is unambiguous. Assumes nothing.
+#![tactic(auto)]
+
 ghost use Rattle.std.specs.Prelude.{◌≡◌, ◌+◌, ◌≤◌, ◌<◌, length, replicate};
 ghost use Rattle.paper.specs.Basics.{most_elements};
 ghost use Rattle.paper.specs.Table.{block_length};

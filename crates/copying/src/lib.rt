@@ -2,6 +2,8 @@
 //
 // A call copies n elements of src, from a place on, to a place of dst; what stands before and behind them is as it was. The loop becomes
 // memcpy when it is compiled. Assumes nothing.
+#![tactic(auto)]
+
 ghost use Rattle.std.specs.Prelude.{◌≡◌, ◌+◌, ◌≤◌, length, drop};
 ghost use Rattle.std.proofs.Math.Seq.{paste};
 

@@ -2,6 +2,8 @@
 //
 // The children of its elements are its starts and texts less one: each of them but the piece itself is a child of one of its elements.
 // Nothing is written. Assumes nothing.
+#![tactic(auto)]
+
 ghost use Rattle.std.specs.Prelude.{◌≡◌, ◌-◌, ◌≤◌, length, take, drop};
 ghost use Rattle.paper.specs.Basics.{most_tokens};
 ghost use Rattle.paper.specs.Tokens.{toks};

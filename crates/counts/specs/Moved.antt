@@ -85,16 +85,16 @@ module _ (counts : List ℤ) (goes comes : List ℕ) where
   unfolding moved_by
   moved_long = names_long (moved_at counts goes comes) 0 most_elements
 
-  moved_at : (e : ℕ) → e < most_elements → moved_at counts goes comes e ≡ get_or (moved_by counts goes comes) e 0
+  moved_at_lem : (e : ℕ) → e < most_elements → moved_at counts goes comes e ≡ get_or (moved_by counts goes comes) e 0
   unfolding moved_by
-  moved_at e h = sym (names_at (moved_at counts goes comes) 0 most_elements e h ∙ ap (moved_at counts goes comes) (omega arith))
+  moved_at_lem e h = sym (names_at (moved_at counts goes comes) 0 most_elements e h ∙ ap (moved_at counts goes comes) (omega arith))
 
   pub moving_begin : {now : List ℕ} → length now ≡ most_elements → Filling (moved_by counts goes comes) now 0
   moving_begin = fill_begin (moved_by counts goes comes)
 
   pub moving_turn : {now : List ℕ} {e x : ℕ} → Filling (moved_by counts goes comes) now e → e < most_elements
       → x ≡ within (get_or counts e (pos 0) +ℤ pos (get_or comes e 0) -ℤ pos (get_or goes e 0)) → Filling (moved_by counts goes comes) (set now e x) (e + 1)
-  moving_turn {now} {e} f h v = fill_turn (moved_by counts goes comes) moved_long f 0 h (v ∙ moved_at e h)
+  moving_turn {now} {e} f h v = fill_turn (moved_by counts goes comes) moved_long f 0 h (v ∙ moved_at_lem e h)
 
   pub moving_end : {now : List ℕ} {e : ℕ} → Filling (moved_by counts goes comes) now e → most_elements ≤ e → now ≡ moved_by counts goes comes
   moving_end f h = fill_end (moved_by counts goes comes) moved_long f h

@@ -3,6 +3,8 @@
 // Only what comes and what goes is looked at. `moves` writes to an array of its caller's, so that a refused edit leaves the counts; `put`
 // writes them. A count may be any number before an edit: sums are exact.
 // Assumes nothing.
+#![tactic(auto)]
+
 ghost use Rattle.std.specs.Prelude.{◌≡◌, true, map, ◌≤◌, length, pos, ◌+ℤ◌, ◌-ℤ◌};
 ghost use Rattle.paper.specs.Basics.{most_tokens, most_elements, all};
 ghost use Rattle.paper.specs.Tokens.{toks};

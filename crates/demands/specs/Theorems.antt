@@ -44,14 +44,14 @@ write_answers = proved.write_answers shrikes faithful
 pub translate_answers : promised.TranslateAnswers shrikes
 translate_answers = proved.translate_answers shrikes faithful
 
-pub check_answers : promised.CheckAnswers shrikes
-check_answers = proved.check_answers shrikes faithful
+pub check_answers_lem : promised.CheckAnswers shrikes
+check_answers_lem = proved.check_answers_lem shrikes faithful
 
 pub check_never_7 : promised.CheckNever7 shrikes
 check_never_7 = proved.check_never_7 shrikes faithful
 
-pub edit_answers : promised.EditAnswers shrikes
-edit_answers = proved.edit_answers shrikes faithful
+pub edit_answers_lem : promised.EditAnswers shrikes
+edit_answers_lem = proved.edit_answers_lem shrikes faithful
 
 pub read_keeps : promised.ReadKeeps shrikes
 read_keeps = proved.read_keeps shrikes faithful
@@ -148,14 +148,14 @@ names_determinate = texts.names_determinate shrikes faithful
 pub spot_determinate : dtd.SpotDeterminate shrikes
 spot_determinate = texts.spot_determinate shrikes faithful
 
-pub import_answers : dtd.ImportAnswers shrikes
-import_answers = texts.import_answers shrikes faithful
+pub import_answers_lem : dtd.ImportAnswers shrikes
+import_answers_lem = texts.import_answers_lem shrikes faithful
 
-pub names_answers : dtd.NamesAnswers shrikes
-names_answers = texts.names_answers shrikes faithful
+pub names_answers_lem : dtd.NamesAnswers shrikes
+names_answers_lem = texts.names_answers_lem shrikes faithful
 
-pub spot_answers : dtd.SpotAnswers shrikes
-spot_answers = texts.spot_answers shrikes faithful
+pub spot_answers_lem : dtd.SpotAnswers shrikes
+spot_answers_lem = texts.spot_answers_lem shrikes faithful
 
 pub import_keeps : dtd.ImportKeeps shrikes
 import_keeps = texts.import_keeps shrikes faithful
@@ -195,8 +195,8 @@ demand_3_by_text = texts.demand_3_by_text shrikes faithful
 pub list_determinate : lists.ListDeterminate shrikes
 list_determinate = listed.list_determinate shrikes faithful
 
-pub list_answers : lists.ListAnswers shrikes
-list_answers = listed.list_answers shrikes faithful
+pub list_answers_lem : lists.ListAnswers shrikes
+list_answers_lem = listed.list_answers_lem shrikes faithful
 
 pub list_faults : lists.ListFaults shrikes
 list_faults = listed.list_faults shrikes faithful
@@ -215,8 +215,8 @@ list_right = listed.list_right shrikes faithful
 pub group_determinate : groups.GroupDeterminate shrikes
 group_determinate = grouped.group_determinate shrikes faithful
 
-pub group_answers : groups.GroupAnswers shrikes
-group_answers = grouped.group_answers shrikes faithful
+pub group_answers_lem : groups.GroupAnswers shrikes
+group_answers_lem = grouped.group_answers_lem shrikes faithful
 
 pub group_order : groups.GroupOrder shrikes
 group_order = grouped.group_order shrikes faithful
@@ -249,8 +249,8 @@ edit_cost_bounded = proved.edit_cost_bounded shrikes faithful
 pub compare_determinate : inclusion.CompareDeterminate shrikes
 compare_determinate = proved.compare_determinate shrikes faithful
 
-pub compare_answers : inclusion.CompareAnswers shrikes
-compare_answers = proved.compare_answers shrikes faithful
+pub compare_answers_lem : inclusion.CompareAnswers shrikes
+compare_answers_lem = proved.compare_answers_lem shrikes faithful
 
 pub compare_keeps : inclusion.CompareKeeps shrikes
 compare_keeps = proved.compare_keeps shrikes faithful

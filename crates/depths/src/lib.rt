@@ -2,6 +2,8 @@
 //
 // Each holds of any tokens, with shape or without.
 // Assumes nothing.
+#![tactic(auto)]
+
 ghost use Rattle.std.specs.Prelude.{◌≡◌, ◌+◌, ◌≤◌, max, length, take, leb};
 ghost use Rattle.paper.specs.Basics.{most_tokens, most_deep};
 ghost use Rattle.paper.specs.Tokens.{toks, deep};

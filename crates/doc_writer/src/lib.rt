@@ -3,10 +3,12 @@
 // It knows its answer before it writes: it first goes over its tokens without writing, and a refused call leaves the lent buffer as it
 // was. Nothing is asked of either slice. The document's tree is not judged.
 // Assumes nothing.
+#![tactic(auto)]
+
 ghost use Rattle.std.specs.Prelude.{◌≡◌, length};
 ghost use Rattle.paper.specs.Files.{file_of};
 ghost use Rattle.paper.specs.Files;
-ghost use Rattle.docfile.specs.Outcome.{outcome, laid, Small};
+ghost use Rattle.docfile.specs.Outcome.{outcome, laid, IsSmall};
 ghost use Rattle.doc_writer.specs.Writer.{Ready};
 
 use docfile::{Count, refusal};
@@ -15,7 +17,7 @@ use paper::{DONE, MOST_TOKENS, MOST_VALUE, ROOM, SHAPE};
 
 // Whether no token is too large.
 fn all_small(tokens: &[u32]) -> bool
-    ensures { result ≡ Small tokens.now }
+    ensures { result ≡ IsSmall tokens.now }
 {
     let mut fine = true;
     let mut i: usize = 0;

@@ -3,6 +3,8 @@
 // The reader knows its answer before it writes: a refused call leaves the lent buffer as it was. It decodes into an array of its own and
 // copies. Nothing is asked of either slice. The document's tree is not judged.
 // Assumes nothing.
+#![tactic(auto)]
+
 ghost use Rattle.std.specs.Prelude.{◌≡◌, ◌≤◌, min, length};
 ghost use Rattle.paper.specs.Basics.{most_tokens};
 ghost use Rattle.paper.specs.Files.{tokens_in};
@@ -16,7 +18,7 @@ use paper::{BROKEN, DONE, MOST_TOKENS, ROOM};
 
 // "reader and writer [answer] a number and the count of tokens or bytes, 0 when refused"
 #[repr(C)]
-#[derive(Drop)]
+#[derive(Clone, Copy)]
 pub struct Count {
     pub number: u32,
     pub count: u32,

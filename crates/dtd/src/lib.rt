@@ -3,6 +3,8 @@
 //
 // Each call knows its answer before it writes: a refused call leaves the lent buffer as it was. Nothing is asked of a text or a buffer.
 // Assumes nothing.
+#![tactic(auto)]
+
 ghost use Rattle.std.specs.Prelude.{◌≡◌, ◌++◌, ◌≤◌, min, length, take};
 ghost use Rattle.paper.specs.Dtd.Imported;
 ghost use Rattle.paper.specs.Dtd.Numbering.{listed};
@@ -117,7 +119,7 @@ pub fn names(text: &[u8], names: &mut [u8]) -> Count
 }
 
 // Where a text is refused.
-#[derive(Drop)]
+#[derive(Clone, Copy)]
 pub struct Spot {
     pub number: u32,
     pub offset: usize,

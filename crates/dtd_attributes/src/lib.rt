@@ -1,5 +1,7 @@
 // Item 4, "DTD files as they come": an ATTLIST, as the reader of `paper` says. The text's attributes are told by the places of their
 // names, one for each different name; what the element has from earlier ATTLISTs is found in the text again. Assumes nothing.
+#![tactic(auto)]
+
 ghost use Rattle.std.specs.Prelude.{◌≡◌, ◌≤◌, ◌<◌, length, drop, take};
 ghost use Rattle.paper.specs.Basics.{most_attributes};
 ghost use Rattle.paper.specs.Dtd.Reading.{due, attlist_decl};
@@ -55,7 +57,7 @@ fn note_name(attributes: &mut [usize], count: usize, attribute: usize, place: us
 
 // Definitions that were read: 0, the place behind them, how many names of attributes there are and the element's row; or a refusal's
 // number and the place of what is at fault.
-#[derive(Drop)]
+#[derive(Clone, Copy)]
 struct Ended {
     number: u32,
     at: usize,
@@ -104,7 +106,7 @@ fn definitions_at(
 
 // An ATTLIST that was read: 0, the place behind it, how many names of attributes there are and how many elements stand in the table; or
 // a refusal's number and the place of what is at fault.
-#[derive(Drop)]
+#[derive(Clone, Copy)]
 pub struct Listed {
     pub number: u32,
     pub at: usize,

@@ -73,13 +73,13 @@ up_to (suc n) left old s = cond (leb (length s) left) old (after old (turn any o
 unfoldable pub declared_to : List ℕ → ℕ → List Declaration
 declared_to text upto = up_to (suc (length text)) (length text - upto) [] text
 
-up_to : (n left : ℕ) {old old' : List Declaration} {s s' : List ℕ} → Path any old s old' s' → length s' ≡ left → length s < n → up_to n left old s ≡ old'
-up_to zero left p e h = absurd (omega arith)
-up_to (suc n) left {old} {old'} {s} {s'} here e h = rw (le-leb (length s) left (omega arith))
-up_to (suc n) left {old} {old'} {s} {s'} (step {new = new} {r = r} q p) e h =
+up_to_lem : (n left : ℕ) {old old' : List Declaration} {s s' : List ℕ} → Path any old s old' s' → length s' ≡ left → length s < n → up_to n left old s ≡ old'
+up_to_lem zero left p e h = absurd (omega arith)
+up_to_lem (suc n) left {old} {old'} {s} {s'} here e h = rw (le-leb (length s) left (omega arith))
+up_to_lem (suc n) left {old} {old'} {s} {s'} (step {new = new} {r = r} q p) e h =
     let i = turn_less any old new s r q in
     let l = path_less any p in
-    rw (lt-leb (length s) left (omega arith), q) (up_to n left p e (omega arith))
+    rw (lt-leb (length s) left (omega arith), q) (up_to_lem n left p e (omega arith))
 
 -- the reader comes to a place, with `declaredTo` declared
 pub record Reached (text : List ℕ) (upto : ℕ) : Type 0 where
@@ -87,9 +87,9 @@ pub record Reached (text : List ℕ) (upto : ℕ) : Type 0 where
   pub path : Path any [] text (declared_to text upto) (drop upto text)
 
 module _ (known : Name → Bool) (text : List ℕ) (upto : ℕ) (old : List Declaration) where
-  pub declared_to : upto ≤ length text → Path known [] text old (drop upto text) → declared_to text upto ≡ old
+  pub declared_to_lem : upto ≤ length text → Path known [] text old (drop upto text) → declared_to text upto ≡ old
   unfolding declared_to
-  declared_to h p = up_to (suc (length text)) (length text - upto) (path_any known p) (length-drop upto text) (omega arith)
+  declared_to_lem h p = up_to_lem (suc (length text)) (length text - upto) (path_any known p) (length-drop upto text) (omega arith)
 
   pub reached : upto ≤ length text → Path known [] text old (drop upto text) → Reached text upto
-  reached h p = record { inside = h; path = rw (declared_to h p) (path_any known p) }
+  reached h p = record { inside = h; path = rw (declared_to_lem h p) (path_any known p) }

@@ -1,5 +1,7 @@
 // Item 4, "DTD files as they come": what an element's earlier ATTLISTs defined, found by going once more along the text that was read.
 // That text is known to be sound, so that nothing is tested here but what stands where. Assumes nothing.
+#![tactic(auto)]
+
 ghost use Rattle.std.specs.Prelude.{◌≤◌, length, drop};
 ghost use Rattle.paper.specs.Dtd.Letters.{is_white, is_more, past};
 ghost use Rattle.paper.specs.Dtd.Declarations.{defined_for, attribute_names};

@@ -2,6 +2,8 @@
 //
 // Brackets nest without a bound, so there is no stack. The innermost are kept as one number, a digit to base 4 for each: 1 no separator
 // yet, 2 commas, 3 bars. Those outside them are found again by looking back along the text. Assumes nothing.
+#![tactic(auto)]
+
 ghost use Rattle.std.specs.Prelude.{◌≡◌, cond, ◌&&◌, ◌||◌, ◌≤◌, eqb, length};
 ghost use Rattle.dtd_model_laws.specs.Walks.{joint_of};
 ghost use Rattle.dtd_brackets.specs.Stacks.{open_at};

@@ -1,4 +1,6 @@
 // Item 4, "DTD files as they come": the characters of a comment, and where it ends, as the readers of `paper` say. Assumes nothing.
+#![tactic(auto)]
+
 ghost use Rattle.std.specs.Prelude.{◌≡◌, ◌≤◌, eqb, length, drop};
 ghost use Rattle.paper.specs.Dtd.Letters.{begins, hyphen};
 ghost use Rattle.paper.specs.Dtd.Letters.{first_of_two, first_of_three, first_of_four, later, second, third};

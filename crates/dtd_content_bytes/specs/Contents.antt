@@ -7,7 +7,7 @@ use Rattle.paper.specs.Expressions.{count as countNames}
 use Rattle.paper.specs.Files.{bytes_of, file_of}
 use Rattle.paper.specs.Schema.{symbols_of, most_symbols}
 use Rattle.paper.specs.SchemaWritten.{content_written}
-use Rattle.paper.specs.Dtd.Declarations.{Part, Content, empty, text as text_only, model}
+use Rattle.paper.specs.Dtd.Declarations.{Part, Content, empty, text as text_only_lem, model}
 use Rattle.paper.specs.Dtd.Grammar.{contentspec}
 use Rattle.paper.specs.Dtd.Limits.{content_kept}
 use Rattle.paper.specs.Dtd.Numbering.{expr_of, model_fits, content_of}
@@ -52,18 +52,18 @@ number_short n h = by (ltb n 128) refl
     by true p = omega (arith, one_wide n (ltb-true n 128 p))
     by false p = omega (arith, two_wide n (ltb-false n 128 p) (omega arith))
 
-model_bytes : (text names : List ℕ) (count : ℕ) (p : Part) → content_bytes text names count (model p) ≡ 2 ∷ model_bytes text names count p
-model_bytes text names count p = ap (λ l. l ++ model_bytes text names count p) (bytes_one 2 (omega arith))
+model_bytes_lem : (text names : List ℕ) (count : ℕ) (p : Part) → content_bytes text names count (model p) ≡ 2 ∷ model_bytes text names count p
+model_bytes_lem text names count p = ap (λ l. l ++ model_bytes text names count p) (bytes_one 2 (omega arith))
 
 -- a content has at most 258 bytes
 pub content_short : (text names : List ℕ) (count : ℕ) (c : Content) → count ≤ length names → count ≤ most_elements → content_kept model_fits c ≡ true
     → length (content_bytes text names count c) ≤ 258
 content_short text names count empty k f h = omega (arith, ap (λ l. length (l ++ [])) (bytes_one 0 (omega arith)))
-content_short text names count text_only k f h = omega (arith, ap (λ l. length (l ++ [])) (bytes_one 1 (omega arith)))
+content_short text names count text_only_lem k f h = omega (arith, ap (λ l. length (l ++ [])) (bytes_one 1 (omega arith)))
 content_short text names count (model p) k f h =
     let s : List ℕ = symbols_for text names count p in
     let n : length s ≤ most_symbols = symbols_few text names count p h in
-    omega (arith, ap length (model_bytes text names count p), length-append (bytes_of (length s)) (file_of s), number_short (length s) n, ap length (one_byte_each text names count k f p))
+    omega (arith, ap length (model_bytes_lem text names count p), length-append (bytes_of (length s)) (file_of s), number_short (length s) n, ap length (one_byte_each text names count k f p))
 
 module _ (text names : List ℕ) (from to count : ℕ) (out : List ℕ) (at : ℕ) (s : Specified text names from to count out at) where
   pub some_room : at < length out
@@ -71,13 +71,13 @@ module _ (text names : List ℕ) (from to count : ℕ) (out : List ℕ) (at : �
     where
       by : (c : Content) → at + length (content_bytes text names count c) ≤ length out → at < length out
       by empty h = omega (arith, h, ap (λ l. length (l ++ [])) (bytes_one 0 (omega arith)))
-      by text_only h = omega (arith, h, ap (λ l. length (l ++ [])) (bytes_one 1 (omega arith)))
-      by (model p) h = omega (arith, h, ap length (model_bytes text names count p))
+      by text_only_lem h = omega (arith, h, ap (λ l. length (l ++ [])) (bytes_one 1 (omega arith)))
+      by (model p) h = omega (arith, h, ap length (model_bytes_lem text names count p))
 
   module _ (kind : ℕ) (e : kind ≡ kind_from (drop from text)) where
     pub content_alone : (kind ≡ 2 → ⊥) → ContentPut text names from to count out at (at + 1) (set out at kind)
     content_alone z empty c = put_as (put_one out at kind some_room) (rw (bytes_one 0 (omega arith), e ∙ kind_spelled empty (drop from text) (drop to text) c))
-    content_alone z text_only c = put_as (put_one out at kind some_room) (rw (bytes_one 1 (omega arith), e ∙ kind_spelled text_only (drop from text) (drop to text) c))
+    content_alone z text_only_lem c = put_as (put_one out at kind some_room) (rw (bytes_one 1 (omega arith), e ∙ kind_spelled text_only_lem (drop from text) (drop to text) c))
     content_alone z (model p) c = absurd (z (e ∙ kind_spelled (model p) (drop from text) (drop to text) c))
 
     module _ (k : kind ≡ 2) where
@@ -87,7 +87,7 @@ module _ (text names : List ℕ) (from to count : ℕ) (out : List ℕ) (at : �
           by : (c : Content) → contentspec c (drop from text) (drop to text) → content_kept model_fits c ≡ true → at + length (content_bytes text names count c) ≤ length out
               → Modelled text names from to count (set out at kind) (at + 1)
           by empty c f h = absurd (omega (arith, k, e ∙ kind_spelled empty (drop from text) (drop to text) c))
-          by text_only c f h = absurd (omega (arith, k, e ∙ kind_spelled text_only (drop from text) (drop to text) c))
+          by text_only_lem c f h = absurd (omega (arith, k, e ∙ kind_spelled text_only_lem (drop from text) (drop to text) c))
           by (model p) c f h = record {
             part = p;
             spelled = c.1;
@@ -95,11 +95,11 @@ module _ (text names : List ℕ) (from to count : ℕ) (out : List ℕ) (at : �
             known = s.known;
             few = s.few;
             fits = symbols_few text names count p f;
-            room = omega (arith, h, ap length (model_bytes text names count p), length-set out at kind);
+            room = omega (arith, h, ap length (model_bytes_lem text names count p), length-set out at kind);
           }
 
       pub content_model : (r : ℕ) (after : List ℕ) → ModelPut text names from to count (set out at kind) (at + 1) r after
           → ContentPut text names from to count out at r after
       content_model r after f empty c = absurd (omega (arith, k, e ∙ kind_spelled empty (drop from text) (drop to text) c))
-      content_model r after f text_only c = absurd (omega (arith, k, e ∙ kind_spelled text_only (drop from text) (drop to text) c))
-      content_model r after f (model p) c = put_as (put_both (put_one out at kind some_room) (f p c.1)) (ap (λ n. n ∷ model_bytes text names count p) k ∙ sym (model_bytes text names count p))
+      content_model r after f text_only_lem c = absurd (omega (arith, k, e ∙ kind_spelled text_only_lem (drop from text) (drop to text) c))
+      content_model r after f (model p) c = put_as (put_both (put_one out at kind some_room) (f p c.1)) (ap (λ n. n ∷ model_bytes text names count p) k ∙ sym (model_bytes_lem text names count p))

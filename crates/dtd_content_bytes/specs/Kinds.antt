@@ -64,8 +64,8 @@ module _ (text : List ℕ) (at : ℕ) where
       behind i a = ap (past is_white) (drop-drop 1 at text) ∙ sym a.rest
 
       module _ (i : ℕ) (a : At text i (past is_white (drop (at + 1) text))) (y : Bool) (e : y ≡ begins (λ c. eqb c 35) (drop i text)) where
-        pub text_only : y ≡ true → 1 ≡ kind_from (drop at text)
-        text_only k = rw (sym p ∙ not-false x q, behind i a, sym e ∙ k)
+        pub text_only_lem : y ≡ true → 1 ≡ kind_from (drop at text)
+        text_only_lem k = rw (sym p ∙ not-false x q, behind i a, sym e ∙ k)
 
         pub a_model : y ≡ false → 2 ≡ kind_from (drop at text)
         a_model k = rw (sym p ∙ not-false x q, behind i a, sym e ∙ k)

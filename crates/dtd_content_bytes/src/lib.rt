@@ -1,4 +1,6 @@
 // Item 4, "DTD files as they come": an element's content in the schema file, from where it stands in the text. Assumes nothing.
+#![tactic(auto)]
+
 ghost use Rattle.std.specs.Prelude.{◌≡◌, eqb, drop};
 ghost use Rattle.paper.specs.Dtd.Letters.{begins};
 ghost use Rattle.dtd_content_bytes.specs.Kinds.{kind_from};

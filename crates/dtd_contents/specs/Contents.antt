@@ -75,8 +75,8 @@ module _ (known : Name → Bool) (t s : List ℕ) (m : Modelled) (x : Model t m 
   abbrev chosen : Read Part → Read Content
   chosen o = onward (onward o (λ a r. cond (model_fits a) (ok a r) (stop limit s))) (λ p r. ok (model p) r)
 
-  pub no_model : m.number ≢ 0 → Specified t (record { number = m.number; at = m.at; kind = 2; symbols = 0 }) (limited known s)
-  no_model p = by (groups known s) x
+  pub no_model_lem : m.number ≢ 0 → Specified t (record { number = m.number; at = m.at; kind = 2; symbols = 0 }) (limited known s)
+  no_model_lem p = by (groups known s) x
     where
       by : (o : Read Part) → Model t m o → Specified t (record { number = m.number; at = m.at; kind = 2; symbols = 0 }) (chosen o)
       by (ok q r) y = absurd (p y.0)

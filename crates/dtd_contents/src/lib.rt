@@ -1,5 +1,7 @@
 // Item 4, "DTD files as they come": what stands behind an element's name, `EMPTY`, `(#PCDATA)` or a model within the limits. Assumes
 // nothing.
+#![tactic(auto)]
+
 ghost use Rattle.std.specs.Prelude.{◌≡◌, ◌≤◌, length, drop, take};
 ghost use Rattle.paper.specs.Dtd.Reading.{contentspec, limited};
 ghost use Rattle.dtd_words.specs.Words.{Came};
@@ -11,7 +13,7 @@ use dtd_words::{Step, skip_white, word_at};
 use paper::{EMPTY, MODEL, MOST_NAMES, MOST_SYMBOLS, SCHEMA, TEXT_ONLY};
 
 // What it came to: 0, the place behind it, its kind, and a model's symbols; or a refusal's number and the place of what is at fault.
-#[derive(Drop)]
+#[derive(Clone, Copy)]
 pub struct Specification {
     pub number: u32,
     pub at: usize,

@@ -1,4 +1,6 @@
 // Item 4, "DTD files as they come": a text that is taken, or where it is refused. Assumes nothing.
+#![tactic(auto)]
+
 ghost use Rattle.std.specs.Prelude.{◌≤◌, length, take};
 ghost use Rattle.paper.specs.Dtd.Letters.{among};
 ghost use Rattle.paper.specs.Dtd.Reading.{reading};

@@ -1,5 +1,7 @@
 // Item 4, "DTD files as they come": one definition of an ATTLIST, as the reader of `paper` says. What was defined before is told by the
 // names of the text's attributes and by the row of the element. Assumes nothing.
+#![tactic(auto)]
+
 ghost use Rattle.std.specs.Prelude.{◌≡◌, ◌≤◌, length, drop, take};
 ghost use Rattle.paper.specs.Dtd.Readers.{S};
 ghost use Rattle.dtd_words.specs.Words.{Came};
@@ -37,7 +39,7 @@ pub fn white_at(text: &[u8], at: usize) -> Step
 
 // The name of an attribute that was read: 0, the place behind it, its own place and its number; or a refusal's number and the place of
 // what is at fault.
-#[derive(Drop)]
+#[derive(Clone, Copy)]
 struct Named {
     number: u32,
     at: usize,
@@ -155,7 +157,7 @@ fn status_after(text: &[u8], at: usize) -> Stated
 
 // A definition that was read: 0, the place behind it, where its name stands and which number it has, its kind and its status; or a
 // refusal's number and the place of what is at fault.
-#[derive(Drop)]
+#[derive(Clone, Copy)]
 pub struct Defined {
     pub number: u32,
     pub at: usize,

@@ -1,4 +1,6 @@
 // Item 4, "DTD files as they come": ELEMENT declarations at a place of a DTD text. Assumes nothing.
+#![tactic(auto)]
+
 ghost use Rattle.std.specs.Prelude.{◌≡◌, ◌≤◌, length, take, drop};
 ghost use Rattle.dtd_words.specs.Words.{Came};
 ghost use Rattle.dtd_names.specs.Named.{name_at, names_at, known_by};
@@ -33,7 +35,7 @@ pub fn end_at(text: &[u8], at: usize) -> Step
 }
 
 // What the head of a declaration came to, and where its name begins.
-#[derive(Drop)]
+#[derive(Clone, Copy)]
 pub struct Head {
     pub number: u32,
     pub at: usize,
@@ -91,7 +93,7 @@ pub fn head_at(text: &[u8], at: usize, elements: &[usize], count: usize) -> Head
 }
 
 // What an ELEMENT declaration came to; where its name begins, and where its content begins and ends.
-#[derive(Drop)]
+#[derive(Clone, Copy)]
 pub struct Element {
     pub number: u32,
     pub at: usize,

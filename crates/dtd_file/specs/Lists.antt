@@ -11,7 +11,7 @@ use Rattle.paper.specs.Dtd.Numbering.{number_in, content_of, attributes_from, el
 use Rattle.numbers.specs.Small.{file_both}
 use Rattle.dtd_names.specs.Turns.{names_long}
 use Rattle.dtd_row_bytes.specs.Rows.{attributes_written, row_written, row_short}
-use Rattle.dtd_row_bytes.specs.Walk.{row_written}
+use Rattle.dtd_row_bytes.specs.Walk.{row_written_lem}
 use Rattle.dtd_content_bytes.specs.Contents.{content_bytes, content_short}
 use Rattle.dtd_heads.specs.Heads.{row_at}
 use Rattle.dtd_file.specs.Filed.{Stands, Stand, Filed}
@@ -42,19 +42,19 @@ module _ (text elements contents ends : List ℕ) (count : ℕ) (rows out : List
   pub names_count : length (element_names ds) ≡ count
   names_count = ap length (sym f.names) ∙ names_long text count elements f.some_elements
 
-  element_bytes : (n : Name) (c : Content) (j : ℕ) → Stands text contents ends rows ds n c j
+  element_bytes_lem : (n : Name) (c : Content) (j : ℕ) → Stands text contents ends rows ds n c j
       → file_of (element_written (element_of ds n c)) ≡ element_bytes text elements count c (row_at rows j)
-  element_bytes n c j s =
+  element_bytes_lem n c j s =
       file_both (content_written (content_of (number_in (element_names ds)) c)) (attributes_written (attributes_from 0 (attribute_names ds) (defined_for n ds)))
       ∙ ap₂ (λ x y. x ++ y) (ap (λ l. file_of (content_written (content_of (number_in l) c))) (sym f.names))
-      (row_written (attribute_names ds) (defined_for n ds) (row_at rows j) s.row f.few_attributes)
+      (row_written_lem (attribute_names ds) (defined_for n ds) (row_at rows j) s.row f.few_attributes)
 
   -- one more element
   rest_more : (n : Name) (c : Content) (j : ℕ) (left : List Declaration) → Stands text contents ends rows ds n c j
       → rest_bytes ds (element n c ∷ left) ≡ element_bytes text elements count c (row_at rows j) ++ rest_bytes ds left
   rest_more n c j left s =
       file_both (element_written (element_of ds n c)) (concat (map element_written (elements_from ds left)))
-      ∙ ap (λ l. l ++ rest_bytes ds left) (element_bytes n c j s)
+      ∙ ap (λ l. l ++ rest_bytes ds left) (element_bytes_lem n c j s)
 
   -- the next one
   pub record Next (left : List Declaration) (j : ℕ) : Type 0 where

@@ -1,6 +1,8 @@
 // Item 4, "DTD files as they come": the schema file of the declarations of a text, from where they stand in it. Assumes nothing.
 //
 // Of element j are told: where its name, its content and the end of that stand in the text, and its row of attributes.
+#![tactic(auto)]
+
 ghost use Rattle.dtd_file.specs.Filed.{Files, FilePut};
 ghost use Rattle.dtd_file.specs.Elements.{Ready, ElementPut};
 ghost use Rattle.dtd_file.specs.Turns.{ElementsPut};

@@ -1,5 +1,7 @@
 // Item 4, "DTD files as they come": a table of the rows of elements that ATTLISTs named, so that the text need not be gone along again
 // for them. It has room for as many as there can be elements; only for others the text is gone along again. Assumes nothing.
+#![tactic(auto)]
+
 ghost use Rattle.std.specs.Prelude.{◌≡◌, ◌≤◌, ◌<◌, length};
 ghost use Rattle.paper.specs.Basics.{most_elements};
 ghost use Rattle.dtd_before.specs.Paths.{declared_to};
@@ -41,7 +43,7 @@ pub fn store_row(rows: &mut [u64], h: usize, row: Row)
 }
 
 // The number of an element's name in the table, or how many stand there; and its row.
-#[derive(Drop)]
+#[derive(Clone, Copy)]
 pub struct Found {
     pub place: usize,
     pub row: Row,

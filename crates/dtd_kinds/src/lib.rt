@@ -1,4 +1,6 @@
 // Item 4, "DTD files as they come": "the four kinds and two statuses" of attributes, as the readers of `paper` say. Assumes nothing.
+#![tactic(auto)]
+
 ghost use Rattle.std.specs.Prelude.{◌≡◌, ◌≤◌, eqb, length, drop};
 ghost use Rattle.paper.specs.Dtd.Letters.{begins};
 ghost use Rattle.paper.specs.Dtd.Readers.{word_end, reference, kind, status};
@@ -47,7 +49,7 @@ fn whole_at(text: &[u8], at: usize, word: &[u8]) -> Step
 }
 
 // A kind that was read: 0, the place behind it and its number; or a refusal's number and the place of what is at fault.
-#[derive(Drop)]
+#[derive(Clone, Copy)]
 pub struct Kinded {
     pub number: u32,
     pub at: usize,
@@ -116,7 +118,7 @@ pub fn kind_at(text: &[u8], at: usize) -> Kinded
 }
 
 // A status that was read, likewise.
-#[derive(Drop)]
+#[derive(Clone, Copy)]
 pub struct Stated {
     pub number: u32,
     pub at: usize,

@@ -238,8 +238,8 @@ module _ (x : Name) where
   empty_for old true = append-nil (defined_for x old)
   empty_for old false = append-nil (defined_for x old)
 
-  pub one_id : (known : Name → Bool) (ds : List Declaration) → kept known [] ds ≡ true → one_id (defined_for x ds) ≡ true
-  one_id known ds k =
+  pub one_id_lem : (known : Name → Bool) (ds : List Declaration) → kept known [] ds ≡ true → one_id (defined_for x ds) ≡ true
+  one_id_lem known ds k =
       throughout One
       (λ old n c q. one_same old (old ++ element n c ∷ []) (sym (for_append x old (element n c ∷ []) ∙ append-nil (defined_for x old))) q)
       (λ old e q. one_same old (old ++ attlist e [] ∷ []) (sym (for_append x old (attlist e [] ∷ []) ∙ empty_for old (same x e))) q)

@@ -55,15 +55,15 @@ same_definition : (d d' : Definition) (s r t : List ℕ) → G.att_def d s r →
 same_definition d d' s r t p q = same {L = Definitions any any (λ k. true)} (definition_exact any any (λ k. true)) (p, refl) (q, refl)
 
 -- no definition stands where the declaration ends
-no_definition : (d : Definition) (s t r : List ℕ) {A : Type 0} → G.att_def d s t → (G.S? ⨾ G.mark greater) s r → A
-no_definition d s t r (t1, a, (t2, b, c)) (t3, e, f) =
+no_definition_lem : (d : Definition) (s t r : List ℕ) {A : Type 0} → G.att_def d s t → (G.S? ⨾ G.mark greater) s r → A
+no_definition_lem d s t r (t1, a, (t2, b, c)) (t3, e, f) =
     let i : t1 ≡ t3 = sym (past_white a.1) ∙ past_white e in
     clash (rw (i, f) refl) (name_first (eqb greater) (not_first greater refl) d.name t1 t2 b)
 
 same_definitions : (ds es : List Definition) (s r t : List ℕ) → G.att_defs ds s r → G.att_defs es s t → (ds ≡ es) × (r ≡ t)
 same_definitions [] [] s r t (t1, a, b) (t2, c, d) = let i : t1 ≡ t2 = sym (past_white a) ∙ past_white c in (refl, cc)
-same_definitions [] (e ∷ es) s r t p (t2, c, d) = no_definition e s t2 r c p
-same_definitions (d ∷ ds) [] s r t (t1, a, b) q = no_definition d s t1 t a q
+same_definitions [] (e ∷ es) s r t p (t2, c, d) = no_definition_lem e s t2 r c p
+same_definitions (d ∷ ds) [] s r t (t1, a, b) q = no_definition_lem d s t1 t a q
 same_definitions (d ∷ ds) (e ∷ es) s r t (t1, a, b) (t2, c, f) =
     let (i, j) = same_definition d e s t1 t2 a c in
     let (k, l) = same_definitions ds es t1 r t b (rw j f) in
@@ -105,11 +105,11 @@ not_note (element n c) s t r (t1, a, p) (t2, b, q) = let z : ◌≡◌ {A = ℕ}
 not_note (attlist e ds) s t r (t1, a, p) (t2, b, q) = let z : ◌≡◌ {A = ℕ} 65 45 = third s a b in absurd (omega arith)
 
 -- what stands behind white space, a comment or a declaration in front
-after_space : {es : List Declaration} {s t : List ℕ} → G.S s t → Spells es s → Spells es t
-after_space a end = clash a.0 refl
-after_space {es} {s} {t} a (space {t = u} b c) = let i : u ≡ t = (same {L = λ v. G.S} {a = tt} {b = tt} S_exact b a).1 in rw i at c
-after_space a (note (t1, b, p) c) = clash a.0 (rw b refl)
-after_space {es} {s} {t} a (declare {d = d} {t = u} b c) = clash a.0 (not_white d s u b)
+after_space_lem : {es : List Declaration} {s t : List ℕ} → G.S s t → Spells es s → Spells es t
+after_space_lem a end = clash a.0 refl
+after_space_lem {es} {s} {t} a (space {t = u} b c) = let i : u ≡ t = (same {L = λ v. G.S} {a = tt} {b = tt} S_exact b a).1 in rw i at c
+after_space_lem a (note (t1, b, p) c) = clash a.0 (rw b refl)
+after_space_lem {es} {s} {t} a (declare {d = d} {t = u} b c) = clash a.0 (not_white d s u b)
 
 after_note : {es : List Declaration} {s t : List ℕ} → G.comment s t → Spells es s → Spells es t
 after_note (t1, a, p) end = let z : 0 ≡ length (start_comment ++ t1) = ap length a in absurd (omega arith)
@@ -134,6 +134,6 @@ unique {ds} {es} end q = ends q refl
     ends (space a b) p = clash a.0 (rw p refl)
     ends (note (t1, a, b) c) p = let z : 0 ≡ length (start_comment ++ t1) = ap length (sym p ∙ a) in absurd (omega arith)
     ends (declare {d = d} {s = s} {t = t} a b) p = not_empty d s t a p
-unique (space a b) q = unique b (after_space a q)
+unique (space a b) q = unique b (after_space_lem a q)
 unique (note a b) q = unique b (after_note a q)
 unique (declare {d = d} a b) q = let (fs, i, c) = after_declaration d a q in ap (λ z. d ∷ z) (unique b c) ∙ i

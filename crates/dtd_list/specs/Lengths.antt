@@ -14,18 +14,18 @@ up_to room n = cond (leb n room) n (room + 1)
 pub record Counting (names : List ℕ) (count from room : ℕ) : Type 0 where
   pub some : count ≤ length names
   pub within : from ≤ room
-  pub Small : room < 18446744073709551615
+  pub IsSmall : room < 18446744073709551615
 
 pub record BothCounted (elements : List ℕ) (count : ℕ) (attributes : List ℕ) (defined room : ℕ) : Type 0 where
   pub some : count ≤ length elements
   pub some_attributes : defined ≤ length attributes
-  pub Small : room < 18446744073709551615
+  pub IsSmall : room < 18446744073709551615
 
 -- ---- names in a row
 
 module _ (room : ℕ) where
-  up_to : (n : ℕ) → n ≤ room → n ≡ up_to room n
-  up_to n h = rw (le-leb n room h)
+  up_to_lem : (n : ℕ) → n ≤ room → n ≡ up_to room n
+  up_to_lem n h = rw (le-leb n room h)
 
   over : (n : ℕ) → room < n → room + 1 ≡ up_to room n
   over n h = rw (lt-leb n room h)
@@ -56,7 +56,7 @@ module _ (text names : List ℕ) (count from room : ℕ) where
       pub summed_all : count ≤ j → n ≡ up_to room (from + length (listed (names_at text (take count names))))
       summed_all k =
           let e : from + length (list_from text names count 0) ≡ n = omega (arith, s.all_is, ap length (list_end text names count c.some j k)) in
-          up_to room n s.within ∙ ap (up_to room) (sym e)
+          up_to_lem room n s.within ∙ ap (up_to room) (sym e)
 
 -- ---- elements, then attributes
 

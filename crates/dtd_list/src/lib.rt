@@ -1,6 +1,8 @@
 // Item 4, "DTD files as they come": the list of names, each ended by byte 10, as item 13 reads it. Assumes nothing.
 //
 // A name is told by the place in the text at which it begins. Names may have any length: they are counted up to the room there is.
+#![tactic(auto)]
+
 ghost use Rattle.std.specs.Prelude.{◌≡◌, ◌++◌, ◌+◌, ◌≤◌, ◌<◌, length, take};
 ghost use Rattle.paper.specs.Dtd.Numbering.{listed};
 ghost use Rattle.lines.specs.Put.{Put};

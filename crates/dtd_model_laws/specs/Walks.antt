@@ -267,6 +267,6 @@ module _ (known : Name → Bool) where
       by (stop k s) = refl
       by (ok p t) = tallied [] _ _ _ _ t (omega arith) (omega arith)
 
-  pub no_model : (s : List ℕ) → begins (eqb opening) s ≡ false → counted s ≡ stop outside s
-  no_model [] p = refl
-  no_model (c ∷ s) p = rw p
+  pub no_model_lem : (s : List ℕ) → begins (eqb opening) s ≡ false → counted s ≡ stop outside s
+  no_model_lem [] p = refl
+  no_model_lem (c ∷ s) p = rw p

@@ -8,7 +8,7 @@ use Rattle.dtd_laws.specs.Leaves.{run_past}
 use Rattle.dtd_words.specs.Places.{At}
 use Rattle.dtd_model_laws.specs.Turns.{groups}
 use Rattle.dtd_model_laws.specs.Sizes.{symbols, words, symbols_many, names_many}
-use Rattle.dtd_model_laws.specs.Walks.{Joint, free, after, counted, ends, begins_walk, no_model}
+use Rattle.dtd_model_laws.specs.Walks.{Joint, free, after, counted, ends, begins_walk, no_model_lem}
 use Rattle.dtd_brackets.specs.Stacks.{open_at, open_none, open_next, white_open}
 use Rattle.dtd_brackets.specs.Windows.{anew}
 use Rattle.dtd_models.specs.Bytes.{front, front_some}
@@ -78,7 +78,7 @@ module _ (text : List ℕ) (from : ℕ) (h : from ≤ length text) (c : ℕ) (q 
       }
 
   pub no_begin : (r : Walk) → r ≡ fault from → c ≢ 40 → Begun text from r
-  no_begin r y p = λ known. rw y (refused known text (drop from text) from (no_model known (drop from text) (no_bracket (drop from text) (λ z. p (q ∙ z)))) h)
+  no_begin r y p = λ known. rw y (refused known text (drop from text) from (no_model_lem known (drop from text) (no_bracket (drop from text) (λ z. p (q ∙ z)))) h)
 
 -- ---- past white space
 

@@ -1,4 +1,6 @@
 // Item 4, "DTD files as they come": a model at a place of a text, in one walk along it without a stack. Assumes nothing.
+#![tactic(auto)]
+
 ghost use Rattle.std.specs.Prelude.{◌≡◌, ◌≢◌, ◌≤◌, length, drop, take};
 ghost use Rattle.paper.specs.Dtd.Readers.{bounded};
 ghost use Rattle.paper.specs.Dtd.Reading.{group};
@@ -44,7 +46,7 @@ fn suffix_at(text: &[u8], at: usize) -> usize
 // ---- the walk
 
 // A place in a model: how many brackets are open, the innermost of them, and the symbols and names up to there.
-#[derive(Drop)]
+#[derive(Clone, Copy)]
 pub struct Place {
     at: usize,
     depth: usize,
@@ -55,7 +57,7 @@ pub struct Place {
 
 // What a model came to: 0, the place behind it, and how many symbols and names it has; or a refusal's number and the place of what is
 // at fault.
-#[derive(Drop)]
+#[derive(Clone, Copy)]
 pub struct Modelled {
     pub number: u32,
     pub at: usize,
@@ -64,7 +66,7 @@ pub struct Modelled {
 }
 
 // Where the walk stands: a part is due; behind a part; or at its end.
-#[derive(Drop)]
+#[derive(Clone, Copy)]
 pub enum Walk {
     Due(Place),
     Behind(Place),

@@ -61,9 +61,9 @@ module _ (P : ℕ → Bool) where
       by false p h = rw p (omega arith)
 
   -- its bytes
-  run_at : (s : List ℕ) (k : ℕ) → k < length (run P s) → get_or (run P s) k 0 ≡ get_or s k 0
-  run_at [] k h = refl
-  run_at (b ∷ s) k h = by (P b) refl k h (run_at s)
+  run_at_lem : (s : List ℕ) (k : ℕ) → k < length (run P s) → get_or (run P s) k 0 ≡ get_or s k 0
+  run_at_lem [] k h = refl
+  run_at_lem (b ∷ s) k h = by (P b) refl k h (run_at_lem s)
     where
       by : (x : Bool) → P b ≡ x → (k : ℕ) → k < length (run P (b ∷ s)) → ((j : ℕ) → j < length (run P s) → get_or (run P s) j 0 ≡ get_or s j 0)
           → get_or (run P (b ∷ s)) k 0 ≡ get_or (b ∷ s) k 0
@@ -155,7 +155,7 @@ module _ (text : List ℕ) (a n : ℕ) (e : n ≡ length (name_at text a)) where
       pub differ : 0 < k → get_or text (a + (k - 1)) 0 ≢ get_or text (b + (k - 1)) 0 → false ≡ same (name_at text a) (name_at text b)
       differ h p =
           let at : (i : ℕ) → k - 1 < length (name_at text i) → get_or (name_at text i) (k - 1) 0 ≡ get_or text (i + (k - 1)) 0 =
-          λ i l. run_at is_more (drop i text) (k - 1) l ∙ get_or-drop i text (k - 1) 0 in
+          λ i l. run_at_lem is_more (drop i text) (k - 1) l ∙ get_or-drop i text (k - 1) 0 in
           other (λ q. p (sym (at a (omega (arith, s.within))) ∙ ap (λ l. get_or l (k - 1) 0) q ∙ at b (omega (arith, s.within, ap length q))))
 
       pub all : k ≤ 0 → (m : Bool) → m ≡ begins is_more (drop (b + n) text) → not m ≡ same (name_at text a) (name_at text b)

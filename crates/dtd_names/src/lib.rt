@@ -1,4 +1,6 @@
 // Item 4, "DTD files as they come": names, each told by the place in the text at which it begins. Assumes nothing.
+#![tactic(auto)]
+
 ghost use Rattle.std.specs.Prelude.{◌≡◌, ◌≤◌, length, drop, take};
 ghost use Rattle.paper.specs.Dtd.Letters.{is_first, is_more, begins, same};
 ghost use Rattle.paper.specs.Dtd.Numbering.{number_in};

@@ -1,6 +1,8 @@
 // Item 4, "DTD files as they come": the symbols of a model that are kept until the part before which they go is met. Assumes nothing.
 //
 // Each is kept with the part's depth. What is kept stands for a symbol that is still to be written, so the buffer has room for it.
+#![tactic(auto)]
+
 ghost use Rattle.std.specs.Prelude.{◌+◌, ◌<◌, ◌^◌, length};
 ghost use Rattle.dtd_owed.specs.Held.{Room, Owes, Settled};
 ghost use Rattle.dtd_owed.specs.Named.{Naming, Named};
@@ -8,7 +10,7 @@ ghost use Rattle.dtd_owed.specs.Named.{Naming, Named};
 const NAMED: u8 = paper::NAMED as u8;
 
 // What is done from a place of the text on: how many `)` have no `(` yet, how many symbols are kept, and where those written begin.
-#[derive(Drop)]
+#[derive(Clone, Copy)]
 pub struct Held {
     pub depth: usize,
     pub owed: usize,

@@ -10,7 +10,7 @@ use Rattle.paper.specs.SchemaWritten.{attribute_written}
 use Rattle.paper.specs.Sets.{bit}
 use Rattle.dtd_rows.specs.declared.Row.{Row}
 use Rattle.dtd_row_bytes.specs.Members.{members_to, members_few, members_below}
-use Rattle.numbers.specs.Small.{Small, file_small}
+use Rattle.numbers.specs.Small.{IsSmall, file_small}
 
 -- by the sets that an attribute is in: ID, IDREF, IDREFS; required
 abbrev pub kind_by : Bool → Bool → Bool → ℕ
@@ -72,7 +72,7 @@ status_small : (x : Bool) → ltb (status_by x) 128 ≡ true
 status_small true = refl
 status_small false = refl
 
-written_small : (r : Row) (l : List ℕ) → all (λ k. ltb k most_attributes) l ≡ true → Small (concat (map attribute_written (map (attribute_in r) l)))
+written_small : (r : Row) (l : List ℕ) → all (λ k. ltb k most_attributes) l ≡ true → IsSmall (concat (map attribute_written (map (attribute_in r) l)))
 written_small r [] h = refl
 written_small r (k ∷ l) h =
     let (a, b) = (and-eq-true_iff (ltb k most_attributes) (all (λ k. ltb k most_attributes) l)).0 h in

@@ -22,8 +22,8 @@ use Rattle.dtd_row_bytes.specs.Rows.{kind_in, status_in, attribute_in, attribute
 
 module _ (r : Row) (k : ℕ) where
   module _ (x : Bool) (p : x ≡ bit r.id k) where
-    pub is_id : x ≡ true → 1 ≡ kind_in r k
-    is_id q = rw (sym p ∙ q)
+    pub is_id_lem : x ≡ true → 1 ≡ kind_in r k
+    is_id_lem q = rw (sym p ∙ q)
 
     module _ (y : Bool) (e : y ≡ bit r.idref k) (no_id : x ≡ false) where
       pub is_idref : y ≡ true → 2 ≡ kind_in r k
@@ -37,8 +37,8 @@ module _ (r : Row) (k : ℕ) where
         is_cdata q = rw (sym p ∙ no_id, sym e ∙ no-idref, sym f ∙ q)
 
   module _ (x : Bool) (p : x ≡ bit r.required k) where
-    pub is_required : x ≡ true → 0 ≡ status_in r k
-    is_required q = rw (sym p ∙ q)
+    pub is_required_lem : x ≡ true → 0 ≡ status_in r k
+    is_required_lem q = rw (sym p ∙ q)
 
     pub is_implied : x ≡ false → 1 ≡ status_in r k
     is_implied q = rw (sym p ∙ q)
@@ -65,7 +65,7 @@ module _ (r : Row) (s : List ℕ) (at : ℕ) where
       from_next = ap (λ l. concat (map attribute_written (map (attribute_in r) l))) (members_next 64 rest w.fits z)
 
       pub walking_room : (count_trailing_zeros 64 rest < 64) × (next + 3 ≤ length t)
-      walking_room = ((turn 64 rest w.fits z).Small, omega (arith, w.putting.room, ap length from_next))
+      walking_room = ((turn 64 rest w.fits z).IsSmall, omega (arith, w.putting.room, ap length from_next))
 
       pub walking_less : cleared rest < rest
       walking_less = (turn 64 rest w.fits z).less

@@ -79,7 +79,7 @@ row_attributes names own r t h = walk r own names most_attributes 0 r.allowed h 
 })
 
 -- so the bytes of those are what is written of the row
-pub row_written : (names : List Name) (own : List Definition) (r : Row) → RowOf names own r → length names ≤ most_attributes
+pub row_written_lem : (names : List Name) (own : List Definition) (r : Row) → RowOf names own r → length names ≤ most_attributes
     → file_of (attributes_written (attributes_from 0 names own)) ≡ row_written r
 unfolding row_written
-row_written names own r t h = ap (λ l. file_of (attributes_written l)) (row_attributes names own r t h) ∙ row_file r
+row_written_lem names own r t h = ap (λ l. file_of (attributes_written l)) (row_attributes names own r t h) ∙ row_file r

@@ -1,6 +1,8 @@
 // Item 4, "DTD files as they come": an element's attributes in the schema file, from its row. Assumes nothing.
 //
 // Each number is below 128, and so one byte.
+#![tactic(auto)]
+
 ghost use Rattle.std.specs.Prelude.{◌≡◌, ◌+◌, ◌≤◌, ◌<◌, length};
 ghost use Rattle.paper.specs.SchemaWritten.{attribute_written};
 ghost use Rattle.lines.specs.Put.{Put};

@@ -13,7 +13,7 @@ use Rattle.paper.specs.Dtd.Declarations.{Definition, is_id}
 use Rattle.paper.specs.Dtd.Numbering.{number_in, kind_number, status_number, definition_of}
 use Rattle.paper.specs.Dtd.Limits.{different}
 use Rattle.basic_laws.specs.Bools.{clash}
-use Rattle.paper_laws.specs.Words.{bit_or, bit_when, bit_one, bit_zero}
+use Rattle.paper_laws.specs.Words.{bit_of_or, bit_when, bit_one, bit_zero}
 use Rattle.dtd_laws.specs.Kept.{same_true, same_refl, some_append, kind_id}
 use Rattle.dtd_laws.specs.Names.{same_sym}
 use Rattle.dtd_rows.specs.Rows.{with_definition, called, holds, marked, defines, is_required, of_kind, Marks, RowOf, undefined}
@@ -90,14 +90,14 @@ module _ (P : Definition → Bool) (own : List Definition) (d : Definition) wher
         → Marks P l (own ++ d ∷ []) (bit_or w (when (P d) (2 ^ number_in l d.name)))
     marks_more l o h w t i =
         let k : ℕ = number_in l d.name in
-        bit_or w (when (P d) (2 ^ k)) i ∙ rw (bit_when (P d) (2 ^ k) i, bit_one k i, t i) (sym (marked_more l o h i))
+        bit_of_or w (when (P d) (2 ^ k)) i ∙ rw (bit_when (P d) (2 ^ k) i, bit_one k i, t i) (sym (marked_more l o h i))
 
 -- an ID among them, or none
 some_bit : (w k : ℕ) → eqb (bit_or w (2 ^ k)) 0 ≡ false
 some_bit w k = ne_eqb (bit_or w (2 ^ k)) 0 (λ e. clash (set k) (ap (λ v. bit v k) e ∙ bit_zero k))
   where
     set : (k : ℕ) → bit (bit_or w (2 ^ k)) k ≡ true
-    set k = bit_or w (2 ^ k) k ∙ rw (bit_one k k, eq-eqb k k refl) (or-true (bit w k))
+    set k = bit_of_or w (2 ^ k) k ∙ rw (bit_one k k, eq-eqb k k refl) (or-true (bit w k))
 
 id_more : (own : List Definition) (d : Definition) (w k : ℕ) → eqb w 0 ≡ not (some_of is_id own)
     → eqb (bit_or w (when (eqb (kind_number d.kind) 1) (2 ^ k))) 0 ≡ not (some_of is_id (own ++ d ∷ []))

@@ -1,5 +1,7 @@
 // Item 4, "DTD files as they come": what the ATTLISTs of one element define, as five sets of attribute numbers. Bit i is the i-th name
 // of the text's attributes. Assumes nothing.
+#![tactic(auto)]
+
 ghost use Rattle.std.specs.Prelude.{◌≡◌, ◌<◌};
 ghost use Rattle.paper.specs.Basics.{most_attributes};
 ghost use Rattle.dtd_rows.specs.Rows.{no_row, with_definition};
@@ -8,7 +10,7 @@ use paper::{ID, IDREF, IDREFS, REQUIRED};
 use sets::{one, when};
 
 // The attributes that an element has, those that are required, and those of three kinds.
-#[derive(Drop)]
+#[derive(Clone, Copy)]
 pub struct Row {
     pub allowed: u64,
     pub required: u64,

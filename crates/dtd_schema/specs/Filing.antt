@@ -9,7 +9,7 @@ use Rattle.dtd_names.specs.Named.{name_at, names_at}
 use Rattle.dtd_names.specs.Turns.{names_long}
 use Rattle.dtd_elements.specs.Stored.{Stored}
 use Rattle.dtd_rows.specs.Rows.{RowOf}
-use Rattle.dtd_before.specs.Paths.{declared_to, declared_to, reached}
+use Rattle.dtd_before.specs.Paths.{declared_to, declared_to_lem, reached}
 use Rattle.dtd_texts.specs.Turns.{Lists, Holding}
 use Rattle.dtd_heads.specs.Heads.{row_at, most_numbers}
 use Rattle.dtd_file.specs.Filed.{Stand, Filed}
@@ -37,7 +37,7 @@ front l j p ps e =
 
 module _ (text es cs qs ns hs ts : List ℕ) (count defined many : ℕ) (ds : List Declaration) (h : Held text es cs qs ns hs ts count defined many ds) where
   declared_all : declared_to text (length text) ≡ ds
-  declared_all = declared_to any text (length text) ds (omega arith) h.holding.path
+  declared_all = declared_to_lem any text (length text) ds (omega arith) h.holding.path
 
   pub asked : (rows : List ℕ) → most_numbers ≤ length rows → Asked text es count ns defined hs many ts rows
   asked rows l =

@@ -1,5 +1,7 @@
 // Item 4, "DTD files as they come": the schema file of a text that is taken goes into the lent buffer, or there is no room. Assumes
 // nothing.
+#![tactic(auto)]
+
 ghost use Rattle.std.specs.Prelude.{◌≡◌};
 ghost use Rattle.docfile.specs.Outcome.{answer};
 ghost use Rattle.dtd_schema.specs.Rows.{Asked, Rowed};

@@ -55,8 +55,8 @@ element_there ds [] v n c x = refl
 element_there ds (element m d ∷ u) v n c x = element_there ds u v n c x
 element_there ds (attlist m l ∷ u) v n c x = element_there ds u v n c x
 
-pub element_of : (ds : List Declaration) (i : ℕ) (d : DeclaredAt ds i) → element_at (schema_for ds) i ≡ made ds d.name d.content
-element_of ds i d =
+pub element_of_lem : (ds : List Declaration) (i : ℕ) (d : DeclaredAt ds i) → element_at (schema_for ds) i ≡ made ds d.name d.content
+element_of_lem ds i d =
     subst (λ l. get_or (elements_from ds l) i undeclared ≡ made ds d.name d.content) (sym d.split)
     (subst (λ j. get_or (elements_from ds (d.before ++ element d.name d.content ∷ d.behind)) j undeclared ≡ made ds d.name d.content) d.place
     (element_there ds d.before d.behind d.name d.content undeclared))
@@ -116,7 +116,7 @@ content_meant ds (model p) k = (
 pub content_by_text : (ds : List Declaration) (i : ℕ) (d : DeclaredAt ds i) (k : List Tok)
     → ContentValid (element_at (schema_for ds) i).content k ↔ ContentMeant ds d.content k
 content_by_text ds i d k =
-    subst (λ x. ContentValid x.content k ↔ ContentMeant ds d.content k) (sym (element_of ds i d)) (content_meant ds d.content k)
+    subst (λ x. ContentValid x.content k ↔ ContentMeant ds d.content k) (sym (element_of_lem ds i d)) (content_meant ds d.content k)
 
 -- An element is valid exactly if the text declares one of its number, its attributes are valid and its content is what the text declares.
 pub element_by_text : (ds : List Declaration) (i : ℕ) (h k : List Tok)
@@ -160,7 +160,7 @@ children_by_text s ds t i d p c w h =
     (subst (λ l. all (declaration_good (is_declared ds)) l ≡ true) d.split (good_kept (is_declared ds) [] ds t.keeps)) in
     let known = ((and-eq-true_iff (each p (is_declared ds)) (model_fits p)).0 (rw c at good)).0 in
     Iff·trans (subst (λ x. ContentValid x.content (map Start (map (number ds) w)) ↔ ContentValid (content_of (number ds) (model p)) (map Start (map (number ds) w)))
-    (sym (element_of ds i d)) (rw c (λ e. e, λ e. e)))
+    (sym (element_of_lem ds i d)) (rw c (λ e. e, λ e. e)))
     (Iff·trans
     (λ (v, e, m). subst (Matches (expr_of p (number ds))) (sym (starts_same (map (number ds) w) v e)) m, λ m. (map (number ds) w, refl, m))
     (judged (element_names ds) p w known h))

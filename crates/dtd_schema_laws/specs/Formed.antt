@@ -17,7 +17,7 @@ use Rattle.paper.specs.Dtd.Numbering.{expr_of, model_fits, number_in, content_of
 use Rattle.paper.specs.Dtd.Limits.{content_kept, model_kept, kept, different, one_id, declaration_good}
 use Rattle.basic_laws.specs.Bools.{clash}
 use Rattle.dtd_laws.specs.Taken.{is_declared, Taken}
-use Rattle.dtd_laws.specs.Kept.{few_elements, few_attributes, one_id, good_kept, same_true, same_refl, kind_id}
+use Rattle.dtd_laws.specs.Kept.{few_elements, few_attributes, one_id_lem, good_kept, same_true, same_refl, kind_id}
 use Rattle.dtd_laws.specs.Names.{firsts_different, number_below}
 use Rattle.dtd_schema_laws.specs.Numbered.{alike, names_each, each_implies}
 
@@ -166,7 +166,7 @@ module _ (ds : List Declaration) (keeps : kept (is_declared ds) [] ds ≡ true) 
   element_formed : (met : ℕ) (n : Name) (c : Content) → content_kept (model_kept (is_declared ds)) c ≡ true
       → formed_element (length (element_names ds)) met (record { content = content_of number c; attributes = attributes_from 0 (attribute_names ds) (defined_for n ds) }) ≡ true
   element_formed met n c k =
-      let one = one_id n (is_declared ds) ds keeps in
+      let one = one_id_lem n (is_declared ds) ds keeps in
       let few = few_attributes (is_declared ds) ds keeps in
       let less = attributes_few (defined_for n ds) one 0 (attribute_names ds) in
       rw (content_formed c k, le-leb (length (attributes_from 0 (attribute_names ds) (defined_for n ds))) most_attributes (omega arith))

@@ -17,7 +17,7 @@ use Rattle.paper.specs.Dtd.Declarations.{Kind, cdata, id, idref, idrefs, Status,
 use Rattle.paper.specs.Dtd.Numbering.{kind_number, status_number, schema_for}
 use Rattle.basic_laws.specs.Bools.{clash}
 use Rattle.dtd_laws.specs.Taken.{Taken}
-use Rattle.dtd_schema_laws.specs.ByText.{DeclaredAt, declared_or, ContentMeant, element_of, element_by_text}
+use Rattle.dtd_schema_laws.specs.ByText.{DeclaredAt, declared_or, ContentMeant, element_of_lem, element_by_text}
 use Rattle.dtd_schema_laws.specs.Attributes.{attribute, text_fixes_none, Defines, has_by_text}
 
 -- ---- what the text says of a document
@@ -120,7 +120,7 @@ module _ (s : List ℕ) (ds : List Declaration) (taken : Taken s ds) where
     has_meant : {Q : Definition → Type 0} (P : Attribute → Bool) (a : ℕ) → ((d : Definition) → (P (attribute a d) ≡ true) ↔ Q d)
         → T (has P (element_at S i) a) ↔ Defines ds e.name Q a
     has_meant {Q} P a h =
-        subst (λ x. T (has P x a) ↔ Defines ds e.name Q a) (sym (element_of ds i e))
+        subst (λ x. T (has P x a) ↔ Defines ds e.name Q a) (sym (element_of_lem ds i e))
         (Iff·trans (has_by_text s ds taken e.name e.content P a) (defines_as (λ d. (h d).0), defines_as (λ d. (h d).1)))
 
     allowed_meant : (a : ℕ) → T (has (λ y. true) (element_at S i) a) ↔ Defines ds e.name (λ d. Unit {0}) a
@@ -143,7 +143,7 @@ module _ (s : List ℕ) (ds : List Declaration) (taken : Taken s ds) where
         allowed = λ u r a p. (allowed_meant a).1 (v.allowed u r a p);
         required = λ a t. v.required a ((required_meant a).0 t);
         single = λ u r a p. elim (v.single u r a p) [ inl d ↦ inl ((idrefs_meant a).1 d) | inr q ↦ inr q ];
-        fixed = λ u r a w p q. none_fixed (sym (ap (λ x. fixed_to x a) (element_of ds i e) ∙ text_fixes_none ds e.name e.content a) ∙ q);
+        fixed = λ u r a w p q. none_fixed (sym (ap (λ x. fixed_to x a) (element_of_lem ds i e) ∙ text_fixes_none ds e.name e.content a) ∙ q);
       },
     )
       where

@@ -12,7 +12,7 @@ use Rattle.paper.specs.Dtd.Reading.{new_element, room_for_element, new_attribute
 use Rattle.paper.specs.Dtd.Limits.{content_kept, model_kept, definition_kept, definitions_kept, declaration_kept, kept, different, one_id, declaration_good, Within}
 use Rattle.basic_laws.specs.Bools.{clash}
 use Rattle.dtd_laws.specs.Kept.{elements_append, words, words_append, for_append, firsts_snoc, throughout, same_true, same_refl}
-use Rattle.dtd_laws.specs.Kept.{few_elements, few_attributes, one_id, good_kept}
+use Rattle.dtd_laws.specs.Kept.{few_elements, few_attributes, one_id_lem, good_kept}
 use Rattle.dtd_laws.specs.Names.{among_append, among_here, same_sym, own_for, called}
 
 -- ---- different names, one more and one of them
@@ -185,7 +185,7 @@ module _ (known : Name → Bool) (all-ds : List Declaration) (w : Within known a
       id_back : (k : Kind) → (k ≡ id → is_id d ≡ true) → id_allowed before e k ≡ true
       id_back cdata h = refl
       id_back id h =
-          let q = subst (λ t. one_id t ≡ true) (for_parts own l d p) (w.one_id e) in
+          let q = subst (λ t. one_id t ≡ true) (for_parts own l d p) (w.one_id_lem e) in
           rw (own_for old e own, one_front (defined_for e old ++ own) (l ++ defined_for e rest) d q (h refl))
       id_back idref h = refl
       id_back idrefs h = refl
@@ -224,7 +224,7 @@ kept_whole known ds = (
     elements_different = elements_different known [] ds refl k;
     few_elements = few_elements known [] ds (omega arith) k;
     attributes_different = λ e. apart e known ds k;
-    one_id = λ e. one_id e known ds k;
+    one_id_lem = λ e. one_id_lem e known ds k;
     few_attributes = few_attributes known ds k;
     each_good = good_kept known [] ds k;
   },

@@ -2,6 +2,8 @@
 //
 // A suffix and a separator stand behind the part before which their symbols go. Each is kept with that part's depth until the part's
 // first byte is met; what is kept stands for a symbol that is still to be written, so there is room for all of a model's.
+#![tactic(auto)]
+
 ghost use Rattle.std.specs.Prelude.{◌≡◌, false, ◌-◌, ◌<◌, length, drop};
 ghost use Rattle.dtd_symbol_laws.specs.Machine.{symbol_for, after};
 ghost use Rattle.dtd_symbols.specs.Turns.{Ready, Turned};

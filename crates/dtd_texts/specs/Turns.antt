@@ -16,7 +16,7 @@ use Rattle.dtd_names.specs.Named.{names_at}
 use Rattle.dtd_names.specs.Turns.{names_long}
 use Rattle.dtd_elements.specs.Steps.{Gave, Went, went}
 use Rattle.dtd_elements.specs.Stored.{Stored, stored_append}
-use Rattle.dtd_before.specs.Paths.{Path, here, one_turn_more, turn_less, declared_to, declared_to, reached}
+use Rattle.dtd_before.specs.Paths.{Path, here, one_turn_more, turn_less, declared_to, declared_to_lem, reached}
 use Rattle.dtd_heads.specs.Heads.{most_numbers, Heads, heads_begun}
 use Rattle.dtd_turns.specs.declared.Turn.{Turn}
 use Rattle.dtd_turns.specs.Standing.{Standing, Turned}
@@ -64,7 +64,7 @@ module _ (known : Name → Bool) (text : List ℕ) where
   begun es cs qs ns hs ws l =
       let h = l.heads_long in
       let w = l.rows_long in
-      let d : declared_to text 0 ≡ [] = declared_to known text 0 [] (omega arith) here in
+      let d : declared_to text 0 ≡ [] = declared_to_lem known text 0 [] (omega arith) here in
       record {
         inside = omega arith;
         long = l;
@@ -130,7 +130,7 @@ module _ (known : Name → Bool) (text : List ℕ) where
         path = one_turn_more known read.value (drop t.at text) g.holds.path read.read
 
         declared : declared_to text t.at ≡ declared_to text at ++ read.value
-        declared = declared_to known text t.at (declared_to text at ++ read.value) read.inside path
+        declared = declared_to_lem known text t.at (declared_to text at ++ read.value) read.inside path
 
         pub nearer : length text - t.at < length text - at
         nearer =

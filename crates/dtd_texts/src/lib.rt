@@ -1,4 +1,6 @@
 // Item 4, "DTD files as they come": the declarations of a DTD text, one after another. Assumes nothing.
+#![tactic(auto)]
+
 ghost use Rattle.std.specs.Prelude.{◌≡◌, ◌≤◌, length, take};
 ghost use Rattle.paper.specs.Dtd.Reading.{reading};
 ghost use Rattle.dtd_names.specs.Named.{names_at, known_by};
@@ -8,7 +10,7 @@ use dtd_turns::turn_at;
 
 // What the reading of a text came to: 0, or a refusal's number and the place of what is at fault; how many elements and names of
 // attributes were declared, and how many rows the table has.
-#[derive(Drop)]
+#[derive(Clone, Copy)]
 pub struct Reading {
     pub number: u32,
     pub at: usize,

@@ -1,4 +1,6 @@
 // Item 4, "DTD files as they come": one turn along a DTD text: white space, a comment or a declaration. Assumes nothing.
+#![tactic(auto)]
+
 ghost use Rattle.std.specs.Prelude.{◌≡◌, ◌≤◌, length, take, drop};
 ghost use Rattle.paper.specs.Dtd.Reading.{turn};
 ghost use Rattle.dtd_words.specs.Words.{Came};
@@ -17,7 +19,7 @@ use dtd_words::{Step, is_white, skip_white, word_at};
 // What a turn came to: 0 and the place behind it, or a refusal's number and the place of what is at fault. Where an element is declared,
 // `elements` is 1, its name begins at `name` and its content stands from `content` to before `end`. `attributes` names of attributes have
 // been met, and the table of rows has `many`.
-#[derive(Drop)]
+#[derive(Clone, Copy)]
 pub struct Turn {
     pub number: u32,
     pub at: usize,

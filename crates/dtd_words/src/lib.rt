@@ -1,4 +1,6 @@
 // Item 4, "DTD files as they come": the smallest steps along a DTD text, each as the readers of `paper` say. Assumes nothing.
+#![tactic(auto)]
+
 ghost use Rattle.std.specs.Prelude.{◌≡◌, ◌≤◌, length, drop};
 ghost use Rattle.paper.specs.Dtd.Letters.{is_white, is_first, is_more, past};
 ghost use Rattle.paper.specs.Dtd.Readers.{literal};
@@ -60,7 +62,7 @@ pub fn name_end(text: &[u8], at: usize) -> usize
 }
 
 // What a step along the text came to: 0 and the place behind it, or a refusal's number and the place of what is at fault.
-#[derive(Drop)]
+#[derive(Clone, Copy)]
 pub struct Step {
     pub number: u32,
     pub at: usize,

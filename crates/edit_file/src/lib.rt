@@ -2,6 +2,8 @@
 //
 // An edit is read at a place of the file, and its piece goes into a lent buffer. Where the file ends inside an edit, a number is broken
 // or a piece is too long, the number of the stop is told. Assumes nothing.
+#![tactic(auto)]
+
 ghost use Rattle.std.specs.Prelude.{◌≡◌, ◌≤◌, length};
 ghost use Rattle.paper.specs.Basics.{most_tokens};
 ghost use Rattle.edit_file.specs.Piece.{PieceAt};
@@ -34,7 +36,7 @@ fn put_piece(file: &[u8], at: usize, n: usize, piece: &mut [u32]) -> Place
 
 // An edit that was read: 0, the place after it, and what it asks for, its piece being the first `count` tokens; or the number of the
 // stop.
-#[derive(Drop)]
+#[derive(Clone, Copy)]
 pub struct Edit {
     pub number: u32,
     pub next: usize,

@@ -2,6 +2,8 @@
 //
 // The table is a proper one. The edits change the document that is lent; the lines go into a buffer with room for as many as a file can
 // ask for. Each edit is lent a second buffer with room for any inverse, and the counts as the edit before it left them. Assumes nothing.
+#![tactic(auto)]
+
 ghost use Rattle.std.specs.Prelude.{◌≡◌, true, ◌≤◌, length};
 ghost use Rattle.paper.specs.Basics.{most_file};
 ghost use Rattle.paper.specs.Table.{proper};

@@ -2,6 +2,8 @@
 //
 // `list_fault` tells whether a list is 1 to 256 whole edits, and `edit_at` hands out the edit at a place of it: what it asks for, and where
 // its piece stands. Nothing is copied. Assumes nothing.
+#![tactic(auto)]
+
 ghost use Rattle.std.specs.Prelude.{◌≡◌, ◌≤◌, length, drop};
 ghost use Rattle.paper.specs.Lists.{split_list, fault_of};
 ghost use Rattle.edit_list.specs.Places.{whole, Within, Handed};
@@ -22,7 +24,7 @@ fn whole_at(list: &[u32], at: usize) -> bool
 }
 
 // An edit of a list: what it asks for, and its piece, which begins at a place and ends before another, where the next edit begins.
-#[derive(Drop)]
+#[derive(Clone, Copy)]
 pub struct Edit {
     pub operation: u32,
     pub place: u32,

@@ -4,6 +4,8 @@
 // an edit that is done is written back, its inverse into a second buffer, and the counts with what comes and what goes. A refusal leaves all
 // as they were.
 // Assumes nothing.
+#![tactic(auto)]
+
 ghost use Rattle.std.specs.Prelude.{◌≡◌, true, ◌+◌, ◌≤◌, length, take, drop};
 ghost use Rattle.paper.specs.Basics.{most_tokens};
 ghost use Rattle.paper.specs.Tokens.{toks};
@@ -22,7 +24,7 @@ use written::{change_of, write};
 
 // "The answer has number, place, used length, and the change in length, a signed count that is negative when tokens went." Item 10: "A done
 // edit reports the number of children looked at".
-#[derive(Drop)]
+#[derive(Clone, Copy)]
 pub struct Answer {
     pub number: u32,
     pub place: u32,

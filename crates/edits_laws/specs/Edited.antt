@@ -21,7 +21,7 @@ use Rattle.shape_laws.specs.EditJudged.{Asked, edited_toks}
 use Rattle.shape_laws.specs.Looked.{over, own}
 use Rattle.shape_laws.specs.Widths.{content_width, own_given, own_flat}
 use Rattle.shape_laws.specs.EditLooked.{looked_is}
-use Rattle.edits_laws.specs.Pieces.{Item, good_item, set_piece, drop_piece}
+use Rattle.edits_laws.specs.Pieces.{Item, good_item_lem, set_piece, drop_piece}
 use Rattle.edits_laws.specs.Places.{after, after_shut, Stands, find}
 use Rattle.edits_laws.specs.Splices.{splice_cons, splice_row, drop_row, one_before, one_cut, held_in, attr_splice, set_splice, drop_splice}
 use Rattle.edits_laws.specs.Looked.{row_around, start_children, slot_even}
@@ -73,8 +73,8 @@ record ElementAt (d : List Tok) (i : ℕ) : Type 0 where
   tokens : d ≡ flat (fill hole (elem name attributes content next)) []
   at : i ≡ place_of hole
 
-element_at : (d : List Tok) → IsTree d → (i : ℕ) → is_start (drop i d) ≡ true → ElementAt d i
-element_at d t i s = go (item_at d t i (start_opens (drop i d) s))
+element_at_lem : (d : List Tok) → IsTree d → (i : ℕ) → is_start (drop i d) ≡ true → ElementAt d i
+element_at_lem d t i s = go (item_at d t i (start_opens (drop i d) s))
   where
     by : (h : Hole) {x : Forest → Forest} → One x → (f : Forest) → d ≡ flat (fill h (x f)) [] → i ≡ place_of h → ElementAt d i
     by h (text n) f w a = clash s (ap is_start (drop_row h (txt n f) d i w a))
@@ -113,10 +113,10 @@ behind_start d i m =
     ∙ ap (drop 1) (drop_row m.hole (elem m.name m.attributes m.content m.next) d i m.tokens m.at)
 
 -- the attribute a goes, and p comes
-attr_splice : (a : ℕ) (d p : List Tok) (i : ℕ) (m : ElementAt d i) (gs : List Given) → attr_splice a p (flat_a m.attributes (inner m)) ≡ flat_a gs (inner m)
+attr_splice_lem : (a : ℕ) (d p : List Tok) (i : ℕ) (m : ElementAt d i) (gs : List Given) → attr_splice a p (flat_a m.attributes (inner m)) ≡ flat_a gs (inner m)
     → splice (attr_at a i d) (attr_cut a i d) p d ≡ flat (fill m.hole (elem m.name gs m.content m.next)) []
 unfolding inner
-attr_splice a d p i m gs r =
+attr_splice_lem a d p i m gs r =
     let l : List Tok = flat_a m.attributes (inner m) in
     let e : suc i + slot a l ≡ i + suc (slot a l) = omega arith in
     rw (behind_start d i m, e)
@@ -129,7 +129,7 @@ set_edit : (d p : List Tok) (i : ℕ) (x : ElementAt d i) (g : Given) → p ≡ 
 unfolding inner
 set_edit d p i x g e =
     rw e
-    (attr_splice g.name d (flat_a (g ∷ []) []) i x (set_given g x.attributes)
+    (attr_splice_lem g.name d (flat_a (g ∷ []) []) i x (set_given g x.attributes)
     (set_splice x.content (flat x.next (after x.hole [])) g x.attributes))
 
 drop_edit : (d p : List Tok) (i : ℕ) (x : ElementAt d i) (a : ℕ) → p ≡ Attr a ∷ [] → ltb 0 (attr_cut (attr_number p) i d) ≡ true
@@ -138,7 +138,7 @@ drop_edit : (d p : List Tok) (i : ℕ) (x : ElementAt d i) (a : ℕ) → p ≡ A
 unfolding inner
 drop_edit d p i x a e s =
     rw e
-    (attr_splice a d [] i x (drop_given a x.attributes)
+    (attr_splice_lem a d [] i x (drop_given a x.attributes)
     (drop_splice x.content (flat x.next (after x.hole [])) a x.attributes (rw (e, behind_start d i x) at s)))
 
 -- ---- the children looked at
@@ -217,7 +217,7 @@ module _ (q : Request) (d : List Tok) (t : IsTree d) where
   unfolding good_piece good_place
   made zero o b g s = clash b refl
   made (suc zero) o b g s =
-      let m = good_item p ((and-eq-true_iff (leb (length p) most_tokens) (good_item p)).0 g).1 in
+      let m = good_item_lem p ((and-eq-true_iff (leb (length p) most_tokens) (good_item p)).0 g).1 in
       let (h, f, w, a) = find d t i ((and-eq-true_iff (at_head opens_or_ends (drop i d)) (ltb 0 i)).0 s).0 in
       let behind : drop (i + 0) d ≡ flat f (after h []) = rw (add-zero i) (drop_row h f d i w a) in (
         fill h f,
@@ -238,7 +238,7 @@ module _ (q : Request) (d : List Tok) (t : IsTree d) where
         omega (arith, left),
       )
   made (suc (suc (suc zero))) o b g s =
-      let m = good_item p ((and-eq-true_iff (leb (length p) most_tokens) (good_item p)).0 g).1 in
+      let m = good_item_lem p ((and-eq-true_iff (leb (length p) most_tokens) (good_item p)).0 g).1 in
       let x = item_at d t i ((and-eq-true_iff (at_head opens (drop i d)) (ltb 0 i || not (is_text p))).0 s).0 in
       let y : List Tok = after x.hole [] in (
         fill x.hole (x.make x.next),
@@ -250,7 +250,7 @@ module _ (q : Request) (d : List Tok) (t : IsTree d) where
       )
   made (suc (suc (suc (suc zero)))) o b g s =
       let (v, e) = set_piece p ((and-eq-true_iff (leb (length p) most_tokens) (attr_with some_values p)).0 g).1 in
-      let x = element_at d t i s in (
+      let x = element_at_lem d t i s in (
         fill x.hole (elem x.name x.attributes x.content x.next),
         fill x.hole (elem x.name (set_given v x.attributes) x.content x.next),
         x.tokens,
@@ -261,7 +261,7 @@ module _ (q : Request) (d : List Tok) (t : IsTree d) where
   made (suc (suc (suc (suc (suc zero))))) o b g s =
       let (a, e) = drop_piece p ((and-eq-true_iff (leb (length p) most_tokens) (attr_with null p)).0 g).1 in
       let (c, k) = (and-eq-true_iff (is_start (drop i d)) (ltb 0 (attr_cut (attr_number p) i d))).0 s in
-      let x = element_at d t i c in (
+      let x = element_at_lem d t i c in (
         fill x.hole (elem x.name x.attributes x.content x.next),
         fill x.hole (elem x.name (drop_given a x.attributes) x.content x.next),
         x.tokens,

@@ -20,8 +20,8 @@ pub record Item (p : List Tok) : Type 0 where
   pub one : One make
   pub tokens : p ≡ flat (make nil) []
 
-pub good_item : (p : List Tok) → good_item p ≡ true → Item p
-good_item p h = go (is_text p) refl h
+pub good_item_lem : (p : List Tok) → good_item p ≡ true → Item p
+good_item_lem p h = go (is_text p) refl h
   where
     go : (b : Bool) → is_text p ≡ b → b || (is_element p && shallow p) ≡ true → Item p
     go true t h = let (n, f) = text_is p t in record { make = txt n; one = text n; tokens = f }

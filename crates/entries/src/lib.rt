@@ -1,6 +1,8 @@
 // The entries of fixed attributes at the end of a table that is being made: "a count and 16 entries of element, attribute and value".
 //
 // They are kept in a slice of their own, with zeros behind the last one. Assumes nothing.
+#![tactic(auto)]
+
 ghost use Rattle.std.specs.Prelude.{◌≡◌, [], ◌∷◌, ◌++◌, ◌<◌, length, get_or};
 ghost use Rattle.paper.specs.Basics.{most_fixed};
 ghost use Rattle.paper.specs.Table.{entries, fixed_numbers};

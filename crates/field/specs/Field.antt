@@ -8,7 +8,7 @@ use Rattle.std.specs.Int.Bits.{bit_or, bit_xor}
 use Rattle.std.proofs.lemmas.Nat.{xor_shr, xor_mod}
 use Rattle.paper.specs.Basics.{elem}
 use Rattle.paper.specs.Sets.{bit}
-use Rattle.paper_laws.specs.Words.{bit_or, bit_zero, bit_one}
+use Rattle.paper_laws.specs.Words.{bit_of_or, bit_zero, bit_one}
 
 -- the value v is marked; one past the end is not
 abbrev pub marked : List ℕ → ℕ → Bool
@@ -44,8 +44,8 @@ xor_digit (suc zero) (suc zero) h l = refl
 xor_digit (suc zero) (suc (suc y)) h l = absurd (omega arith)
 xor_digit (suc (suc x)) y h l = absurd (omega arith)
 
-bit_xor : (v w k : ℕ) → bit (bit_xor v w) k ≡ cond (bit w k) (not (bit v k)) (bit v k)
-bit_xor v w k =
+bit_of_xor : (v w k : ℕ) → bit (bit_xor v w) k ≡ cond (bit w k) (not (bit v k)) (bit v k)
+bit_of_xor v w k =
     let two : 0 < 2 = zero-lt-suc 1 in
     rw (xor_shr v w k, xor_mod (v / 2 ^ k) (w / 2 ^ k) 1) (xor_digit (v / 2 ^ k % 2) (w / 2 ^ k % 2) (mod-lt _ two) (mod-lt _ two))
 
@@ -90,7 +90,7 @@ marked_mark field w h v =
     let old : ℕ = get_or field (w / 64) 0 in
     at_word field w (bit_or old (2 ^ (w % 64))) v h
     (λ e.
-    rw (bit_or old (2 ^ (w % 64)) (v % 64), bit_one (w % 64) (v % 64), same_word v w e)
+    rw (bit_of_or old (2 ^ (w % 64)) (v % 64), bit_one (w % 64) (v % 64), same_word v w e)
     (or_comm (bit old (v % 64)) (eqb v w) ∙ ap (λ i. eqb v w || bit (get_or field i 0) (v % 64)) (sym e)))
     (λ e. rw (apart v w e))
 
@@ -104,7 +104,7 @@ marked_unmark field w h v =
     let old : ℕ = get_or field (w / 64) 0 in
     at_word field w (bit_xor (bit_or old (2 ^ (w % 64))) (2 ^ (w % 64))) v h
     (λ e.
-    rw (bit_xor (bit_or old (2 ^ (w % 64))) (2 ^ (w % 64)) (v % 64), bit_or old (2 ^ (w % 64)) (v % 64), bit_one (w % 64) (v % 64), same_word v w e)
+    rw (bit_of_xor (bit_or old (2 ^ (w % 64))) (2 ^ (w % 64)) (v % 64), bit_of_or old (2 ^ (w % 64)) (v % 64), bit_one (w % 64) (v % 64), same_word v w e)
     (off (bit old (v % 64)) (eqb v w) ∙ ap (λ i. not (eqb v w) && bit (get_or field i 0) (v % 64)) (sym e)))
     (λ e. rw (apart v w e))
   where

@@ -2,6 +2,8 @@
 //
 // The field is lent by the caller. One of WORDS words has a bit for each value that a token can have. The laws stand in specs/, over the
 // length. Assumes nothing.
+#![tactic(auto)]
+
 ghost use Rattle.std.specs.Prelude.{◌≡◌, ◌/◌, ◌^◌, ◌<◌, length, cond};
 ghost use Rattle.std.specs.Int.Bits.{bit_or, bit_xor};
 ghost use Rattle.field.specs.Field.{marked, mark, unmark, Noted};

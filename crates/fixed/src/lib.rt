@@ -1,6 +1,8 @@
 // The test of a table's entries of fixed attributes.
 //
 // The table has the right length and not too many elements; nothing else is asked of it, and nothing is written. Assumes nothing.
+#![tactic(auto)]
+
 ghost use Rattle.std.specs.Prelude.{◌≡◌, ◌≤◌, length, get_or};
 ghost use Rattle.paper.specs.Basics.{most_elements, most_fixed};
 ghost use Rattle.paper.specs.Table.{table_length, fixed_part, proper_fixed};

@@ -35,9 +35,9 @@ only_is v m (Text n ∷ d) f = refl
 only_is v m (Bad ∷ d) f = refl
 
 module _ (doc : List ℕ) (used place v : ℕ) {t next m : ℕ} {p q : Bool} where
-  pub only_value : t ≡ get_or (take used doc) place 0 → next ≡ get_or (take used doc) (place + 1) 0 → p ≡ value_tok (tok_of t) → m ≡ t / 8
+  pub only_value_lem : t ≡ get_or (take used doc) place 0 → next ≡ get_or (take used doc) (place + 1) 0 → p ≡ value_tok (tok_of t) → m ≡ t / 8
       → q ≡ value_tok (tok_of next) → p && eqb m v && not q ≡ only_value v (heads (drop place (toks (take used doc))))
-  only_value et en ep em eq =
+  only_value_lem et en ep em eq =
       let d : List Tok = drop place (toks (take used doc)) in
       let here : tok_of t ≡ head_tok d = ap tok_of et ∙ head_is (take used doc) place in
       let then : tok_of next ≡ head_tok (drop 1 d) = ap tok_of en ∙ head_is (take used doc) (place + 1) ∙ ap head_tok (sym (drop-drop 1 place (toks (take used doc)))) in

@@ -1,6 +1,8 @@
 // The fixed attributes of one element: whether each that is present has its value.
 //
 // The entries of a proper table are gone through for each attribute behind a start. Nothing is written. Assumes nothing.
+#![tactic(auto)]
+
 ghost use Rattle.std.specs.Prelude.{◌≡◌, true, ◌≤◌, ◌<◌, length, take, drop};
 ghost use Rattle.paper.specs.Tokens.{toks, heads};
 ghost use Rattle.paper.specs.Table.{proper, fixed_part, entries};
@@ -14,7 +16,7 @@ use places::token_at;
 use tokens::{is_attribute, is_value, number};
 
 // Whether an attribute is fixed: it takes any value, or one alone.
-#[derive(Drop)]
+#[derive(Clone, Copy)]
 enum Fixed {
     Free,
     To(u64),

@@ -3,6 +3,8 @@
 // Only `form_of` is called from outside, with a document that has shape. The document is read; the edited tokens are written to a buffer
 // beside it.
 // Assumes nothing.
+#![tactic(auto)]
+
 ghost use Rattle.std.specs.Prelude.{◌≡◌, true, ◌+◌, ◌≤◌, length, take};
 ghost use Rattle.paper.specs.Basics.{most_tokens};
 ghost use Rattle.paper.specs.Shape.{shape_of};
@@ -41,7 +43,7 @@ fn coming(operation: u32, piece: &[u32]) -> &[u32]
 
 // An edit before it is judged: its number for a fault of form, or 0; and then where it changes the document, how many tokens come, and
 // the new length.
-#[derive(Drop)]
+#[derive(Clone, Copy)]
 pub struct Form {
     pub number: u32,
     pub at: usize,

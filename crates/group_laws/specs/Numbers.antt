@@ -12,7 +12,7 @@ use Rattle.paper.specs.Rules.{of_table}
 use Rattle.paper.specs.Judgement.{Answer, judge, whole, checking, check}
 use Rattle.paper.specs.Answers.{Answers, check_answers, group_answers}
 use Rattle.paper.specs.Edits.{Request, form_fault}
-use Rattle.answer_laws.specs.Check.{check_answers}
+use Rattle.answer_laws.specs.Check.{check_answers_lem}
 use Rattle.answer_laws.specs.Edit.{form_number}
 use Rattle.answer_laws.specs.Judged.{each}
 use Rattle.paper.specs.Groups.{after, Work, GroupOutcome, verdict, copied, stopped, begun, group}
@@ -50,12 +50,12 @@ module _ (table buffer : List ℕ) (used : ℕ) (second : List ℕ) (h : Begins 
       let new : List ℕ = after es (take used buffer) in
       let good : shape_of new (length new) ≡ true = shape_after (length buffer) es (take used buffer) (shape_alone buffer used h.shape) r.in_form in
       let same : check table new (length new) ≡ judge (of_table table) whole (toks new) = rw (h.table_good, good, take-length new) in
-      rw (r.number, r.reached, ← same) (more (check_answers table new (length new) (check table new (length new)) refl))
+      rw (r.number, r.reached, ← same) (more (check_answers_lem table new (length new) (check table new (length new)) refl))
 
 -- "Every call takes every input and answers a number of the paper." A group never gives 7, as a check does not.
-pub group_answers : (table buffer : List ℕ) (used : ℕ) (list second : List ℕ)
+pub group_answers_lem : (table buffer : List ℕ) (used : ℕ) (list second : List ℕ)
     → let o : GroupOutcome = group table buffer used list second in Answers group_answers o.number o.place
-group_answers table buffer used list second =
+group_answers_lem table buffer used list second =
     by_ways (λ o. Answers group_answers o.number o.place) table buffer used second
     (record { OneOf = tt; no_place = λ c. refl }) (record { OneOf = tt; no_place = λ c. refl }) (record { OneOf = tt; no_place = λ c. refl }) list
     (λ h es w f. begun_answers buffer used second w (verdict (of_table table) w)

@@ -3,6 +3,8 @@
 // `group` asks nothing of its arguments. What is refused before any edit leaves both buffers as they were. Once an edit has begun the second
 // buffer holds the last document that was reached; the first one is written when that is valid, and stays as it was when it is not.
 // Assumes nothing.
+#![tactic(auto)]
+
 ghost use Rattle.std.specs.Prelude.{◌≡◌, true, ◌≤◌, length};
 ghost use Rattle.paper.specs.Shape.{shape_of};
 ghost use Rattle.paper.specs.Table.{proper};
@@ -18,7 +20,7 @@ use working::work;
 use written::{change_of, write};
 
 // A group's answer: number and place, "which edit it was, from 1 (else 0)", and the whole group's used length and change.
-#[derive(Drop)]
+#[derive(Clone, Copy)]
 pub struct Grouped {
     pub number: u32,
     pub place: u32,

@@ -2,6 +2,8 @@
 //
 // No contract says which bytes the system reads, so what it answers is kept with each file, and what follows from that is proved.
 // Assumes nothing but the contracts of the system's functions.
+#![tactic(auto)]
+
 ghost use Rattle.std.specs.Prelude.{◌≡◌, ◌+◌, ◌≤◌, length};
 ghost use Rattle.paper.specs.Basics.{most_file};
 ghost use Rattle.input_files.specs.Files.{Holds, readable};
@@ -12,7 +14,7 @@ use paper::MOST_FILE;
 pub const ROOM: usize = MOST_FILE + 1;
 
 // The three files.
-#[derive(Drop)]
+#[derive(Clone, Copy)]
 pub enum Name {
     Schema,
     Doc,
@@ -30,14 +32,14 @@ pub struct File {
 }
 
 // What the opening of a file answered.
-#[derive(Drop)]
+#[derive(Clone, Copy)]
 struct Opened {
     name: Name,
     answer: i32,
 }
 
 // How many bytes were read, and what the last reading answered: 0 at the end of the file, or below 0.
-#[derive(Drop)]
+#[derive(Clone, Copy)]
 struct Reading {
     len: usize,
     last: isize,

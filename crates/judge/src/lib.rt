@@ -2,6 +2,8 @@
 //
 // One element is judged in one pass over its attributes and one over its children. So a check reads each token a few times, whatever the
 // depth. `check` asks nothing of its arguments, and no call writes to what it is lent. Assumes nothing.
+#![tactic(auto)]
+
 ghost use Rattle.std.specs.Prelude.{◌≡◌, true, ◌≤◌, ◌<◌, length, take, drop};
 ghost use Rattle.paper.specs.Basics.{most_tokens};
 ghost use Rattle.paper.specs.Tokens.{toks};
@@ -19,7 +21,7 @@ use stops::Stop;
 use tokens::{is_start, number};
 
 // What is seen of an element: its fault, number 0 for none; and, where it has none, how many children it has.
-#[derive(Drop)]
+#[derive(Clone, Copy)]
 pub struct Seen {
     pub number: u32,
     pub place: u32,

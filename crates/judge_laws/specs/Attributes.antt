@@ -78,18 +78,18 @@ below low had met (y ∷ l) f P a t =
     ]
 
 -- the attributes of each element of a schema keep the limits, behind the fixed ones that were met
-element_at : (E : ℕ) (l : List Element) (met n : ℕ) → T (formed_elements E met l) → (m : ℕ) × T (formed_attributes 0 false m (get_or l n undeclared).attributes)
-element_at E [] met n t = (met, tt)
-element_at E (x ∷ l) met zero t =
+element_at_lem : (E : ℕ) (l : List Element) (met n : ℕ) → T (formed_elements E met l) → (m : ℕ) × T (formed_attributes 0 false m (get_or l n undeclared).attributes)
+element_at_lem E [] met n t = (met, tt)
+element_at_lem E (x ∷ l) met zero t =
     let g = ((and_iff (formed_element E met x) (formed_elements E (met + fixed_in x.attributes) l)).0 t).0 in
     (met, ((and3_iff (formed_content E x.content) (leb (length x.attributes) most_attributes) (formed_attributes 0 false met x.attributes)).0 g).2)
-element_at E (x ∷ l) met (suc n) t =
-    element_at E l (met + fixed_in x.attributes) n ((and_iff (formed_element E met x) (formed_elements E (met + fixed_in x.attributes) l)).0 t).1
+element_at_lem E (x ∷ l) met (suc n) t =
+    element_at_lem E l (met + fixed_in x.attributes) n ((and_iff (formed_element E met x) (formed_elements E (met + fixed_in x.attributes) l)).0 t).1
 
 formed_at : (s : Schema) → formed s ≡ true → (n : ℕ) → (m : ℕ) × T (formed_attributes 0 false m (element_at s n).attributes)
 formed_at s f n =
     let E = length s.elements in
-    element_at E s.elements 0 n ((and3_iff (between 1 most_elements E) (ltb s.root E) (formed_elements E 0 s.elements)).0 ((true_iff (formed s)).0 f)).2
+    element_at_lem E s.elements 0 n ((and3_iff (between 1 most_elements E) (ltb s.root E) (formed_elements E 0 s.elements)).0 ((true_iff (formed s)).0 f)).2
 
 single_iff : (b : Bool) (n : ℕ) → T (b || eqb n 1) ↔ (T b ⊎ (n ≡ 1))
 single_iff true n = (inl, λ e. tt)

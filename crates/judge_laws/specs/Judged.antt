@@ -105,9 +105,9 @@ judged_valid s f d b =
     )
 
 -- a document with shape is one element
-element_of : (buffer : List ℕ) (used : ℕ) → shape_of buffer used ≡ true → is_element (toks (take used buffer)) ≡ true
+element_of_lem : (buffer : List ℕ) (used : ℕ) → shape_of buffer used ≡ true → is_element (toks (take used buffer)) ≡ true
 unfolding shape_of
-element_of buffer used e =
+element_of_lem buffer used e =
     let d = toks (take used buffer) in
     let sizes = leb 2 used && leb used most_tokens && leb used (length buffer) in
     (true_iff (is_element d)).1 ((and3_iff sizes (is_element d) (shallow d)).0 ((true_iff (shape_of buffer used)).0 e)).1
@@ -120,6 +120,6 @@ checked_valid s f buffer used =
     let d = toks (take used buffer) in
     let (apart, joined) = pass_iff (shape_of buffer used) (judge (of_schema s) whole d) (4, 0) (omega arith) in
     let shape = true_iff (shape_of buffer used) in (
-      λ e. let (p, q) = apart e in let h = shape.1 p in record { shape = h; valid = (judged_valid s f d (element_of buffer used h)).0 q },
-      λ v. joined (shape.0 v.shape, (judged_valid s f d (element_of buffer used v.shape)).1 v.valid),
+      λ e. let (p, q) = apart e in let h = shape.1 p in record { shape = h; valid = (judged_valid s f d (element_of_lem buffer used h)).0 q },
+      λ v. joined (shape.0 v.shape, (judged_valid s f d (element_of_lem buffer used v.shape)).1 v.valid),
     )

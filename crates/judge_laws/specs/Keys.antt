@@ -15,7 +15,7 @@ use Rattle.paper.specs.Judgement.{is_id, is_ref, ids_of, refs_of, value_in, repe
 use Rattle.paper.specs.Validity.{StandsAt, IsId, IsReference}
 use Rattle.basic_laws.specs.Tests.{and_iff, or_iff, or_l, or_r}
 use Rattle.judge_laws.specs.Connectives.{pass_iff}
-use Rattle.judge_laws.specs.Values.{Rising, rising_from}
+use Rattle.judge_laws.specs.Values.{Rising, rising_from_lem}
 use Rattle.judge_laws.specs.Stands.{stands_iff}
 
 -- ---- values and their places, as a list
@@ -109,24 +109,24 @@ module _ (P : Attribute → Bool) (a : ℕ) where
   has_below (x ∷ l) (suc n) t = let k = has_below l n t in omega arith
 
 module _ (s : Schema) (n a : ℕ) where
-  abbrev of_kind : ℕ → Bool
-  of_kind k = has (of_kind k) (element_at s n) a
+  abbrev of_kind_lem : ℕ → Bool
+  of_kind_lem k = has (of_kind k) (element_at s n) a
 
   -- what is of a kind is declared
-  known : (k : ℕ) → T (of_kind k) → T (ltb n (length s.elements) && has (λ y. true) (element_at s n) a)
+  known : (k : ℕ) → T (of_kind_lem k) → T (ltb n (length s.elements) && has (λ y. true) (element_at s n) a)
   known k t =
       (and_iff (ltb n (length s.elements)) (has (λ y. true) (element_at s n) a)).1
       (lt→ltb n (length s.elements) (has_below (of_kind k) a s.elements n t), has_some (of_kind k) a (element_at s n).attributes t)
 
   id_iff : T (is_id (of_schema s) n a) ↔ IsId s n a
   id_iff =
-      let (apart, joined) = and_iff (ltb n (length s.elements) && has (λ y. true) (element_at s n) a) (of_kind 1) in
+      let (apart, joined) = and_iff (ltb n (length s.elements) && has (λ y. true) (element_at s n) a) (of_kind_lem 1) in
       (λ t. (apart t).1, λ t. joined (known 1 t, t))
 
   reference_iff : T (is_ref (of_schema s) n a) ↔ IsReference s n a
   reference_iff =
-      let (apart, joined) = and_iff (ltb n (length s.elements) && has (λ y. true) (element_at s n) a) (of_kind 2 || of_kind 3) in
-      let (to, of) = or_iff (of_kind 2) (of_kind 3) in
+      let (apart, joined) = and_iff (ltb n (length s.elements) && has (λ y. true) (element_at s n) a) (of_kind_lem 2 || of_kind_lem 3) in
+      let (to, of) = or_iff (of_kind_lem 2) (of_kind_lem 3) in
       (λ t. to (apart t).1, λ c. joined (elim c [ inl t ↦ known 2 t | inr t ↦ known 3 t ], of c))
 
 -- ---- in a document with shape
@@ -156,7 +156,7 @@ module _ (s : Schema) (d : List Tok) (b : is_body (phases Body d) ≡ true) wher
 
   pub ids_iff : ((repeated [] (ids_of (of_schema s) d)).0 ≡ 0) ↔ ((i j x : ℕ) → StandsAt (IsId s) d i x → StandsAt (IsId s) d j x → i ≡ j)
   ids_iff =
-      let (to, of) = repeated_iff (ids_of (of_schema s) d) (rising_from (is_id (of_schema s)) d 0 0 0) in (
+      let (to, of) = repeated_iff (ids_of (of_schema s) d) (rising_from_lem (is_id (of_schema s)) d 0 0 0) in (
         λ e i j x y z. to e i j x ((holds_id i x).1 y) ((holds_id j x).1 z),
         λ f. of (λ i j x m n. f i j x ((holds_id i x).0 m) ((holds_id j x).0 n)),
       )

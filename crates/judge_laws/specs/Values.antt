@@ -88,14 +88,14 @@ Rising [] = Unit {0}
 Rising (p ∷ l) = ((j x : ℕ) → Memᴰ (j, x) l → p.0 < j) × Rising l
 
 module _ (is : ℕ → ℕ → Bool) where
-  pub rising_from : (d : List Tok) (i e a : ℕ) → Rising (values_of is i e a d)
-  rising_from [] i e a = tt
-  rising_from (Start n ∷ d) i e a = rising_from d (suc i) n a
-  rising_from (End ∷ d) i e a = rising_from d (suc i) e a
-  rising_from (Text n ∷ d) i e a = rising_from d (suc i) e a
-  rising_from (Attr n ∷ d) i e a = rising_from d (suc i) e n
-  rising_from (Bad ∷ d) i e a = rising_from d (suc i) e a
-  rising_from (Value v ∷ d) i e a = go (is e a) (rising_from d (suc i) e a)
+  pub rising_from_lem : (d : List Tok) (i e a : ℕ) → Rising (values_of is i e a d)
+  rising_from_lem [] i e a = tt
+  rising_from_lem (Start n ∷ d) i e a = rising_from_lem d (suc i) n a
+  rising_from_lem (End ∷ d) i e a = rising_from_lem d (suc i) e a
+  rising_from_lem (Text n ∷ d) i e a = rising_from_lem d (suc i) e a
+  rising_from_lem (Attr n ∷ d) i e a = rising_from_lem d (suc i) e n
+  rising_from_lem (Bad ∷ d) i e a = rising_from_lem d (suc i) e a
+  rising_from_lem (Value v ∷ d) i e a = go (is e a) (rising_from_lem d (suc i) e a)
     where
       l : List (ℕ × ℕ)
       l = values_of is (suc i) e a d

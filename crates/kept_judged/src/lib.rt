@@ -2,6 +2,8 @@
 //
 // Root and elements are judged at what is touched. Of IDs and references only what goes and what comes is looked at; if they have a fault,
 // "the place is found by the whole pass". The table is a proper one; the field and the counts are lent by the caller. Assumes nothing.
+#![tactic(auto)]
+
 ghost use Rattle.std.specs.Prelude.{◌≡◌, true, take};
 ghost use Rattle.paper.specs.Table.{proper};
 ghost use Rattle.paper.specs.Tokens.{toks};

@@ -3,6 +3,8 @@
 // Both are lent by the caller. `learn` fills them from a document. `follow` takes an edit into them, by the tokens that go and those that
 // come alone, and tells whether the edited document has no fault of 11 or 12. The law is that of `kept_laws`.
 // Assumes nothing.
+#![tactic(auto)]
+
 ghost use Rattle.std.specs.Prelude.{◌≡◌, true, ◌≤◌, length};
 ghost use Rattle.paper.specs.Basics.{most_tokens};
 ghost use Rattle.paper.specs.Table.{proper};

@@ -2,6 +2,8 @@
 // value has.
 //
 // Field and counts are lent by the caller. Any tokens are taken; the table is a proper one. Assumes nothing.
+#![tactic(auto)]
+
 ghost use Rattle.std.specs.Prelude.{◌≡◌, true, ◌+◌, ◌≤◌, ◌<◌, length, get_or};
 ghost use Rattle.paper.specs.Table.{proper};
 ghost use Rattle.paper.specs.Rules.{of_table};

@@ -11,7 +11,7 @@ use Rattle.paper.specs.Rules.{of_table}
 use Rattle.paper.specs.Judgement.{is_id, is_ref}
 use Rattle.basic_laws.specs.Bools.{either, meet}
 use Rattle.paper_laws.specs.Basics.{every_iff}
-use Rattle.paper_laws.specs.Words.{bit_or, bit_below, bit_past}
+use Rattle.paper_laws.specs.Words.{bit_of_or, bit_below, bit_past}
 use Rattle.table_laws.specs.Parts.{table_parts, block_parts}
 
 -- an attribute of 64 or more is in no set
@@ -72,10 +72,10 @@ module _ (t : List ℕ) (e : ℕ) {y : Bool} (ey : y ≡ ltb e (get_or t 0 0)) w
         → r ≡ is_ref (of_table t) e a
     ref_some {x} {z} {r} ex lx ez lz er =
         let in_it : (bit x a || bit z a) ≡ true → bit (cell b allowed_at) a ≡ true = λ m.
-        let s : a < 64 = bit_below 64 (bit_or x z) a (or_lt 64 x z lx lz) (bit_or x z a ∙ m) in
+        let s : a < 64 = bit_below 64 (bit_or x z) a (or_lt 64 x z lx lz) (bit_of_or x z a ∙ m) in
         elim (either (bit x a) (bit z a) m) [
           | inl m ↦ member (cell b idref_at) (cell b allowed_at) a sets.idref_in s (rw ex at m)
           | inr m ↦ member (cell b idrefs_at) (cell b allowed_at) a sets.idrefs_in s (rw ez at m)
         ] in
-        rw (sym ey ∙ not-false y n, ← ex, ← ez) (er ∙ bit_or x z a
+        rw (sym ey ∙ not-false y n, ← ex, ← ez) (er ∙ bit_of_or x z a
         ∙ sym (and_comm (bit (cell b allowed_at) a) (bit x a || bit z a) ∙ meet (bit x a || bit z a) (bit (cell b allowed_at) a) in_it))

@@ -126,8 +126,8 @@ module _ (doc : List ℕ) (used i : ℕ) where
   pub value_past : used ≤ i → false ≡ value_at doc used i
   value_past h = rw (le-ltb i used h)
 
-  pub value_here : {y : Bool} → i < used → y ≡ value_tok (tok_of (get_or doc i 0)) → y ≡ value_at doc used i
-  value_here h e = rw (lt-ltb i used h) e
+  pub value_here_lem : {y : Bool} → i < used → y ≡ value_tok (tok_of (get_or doc i 0)) → y ≡ value_at doc used i
+  value_here_lem h e = rw (lt-ltb i used h) e
 
 -- ---- the next key
 

@@ -2,6 +2,8 @@
 //
 // A walk knows its place, and the element and the attribute that began last before it. Any tokens are taken; the table is a proper one.
 // Nothing is written. Assumes nothing.
+#![tactic(auto)]
+
 ghost use Rattle.std.specs.Prelude.{◌≡◌, true, ◌+◌, ◌≤◌, ◌<◌, ◌^◌, ltb, length, get_or};
 ghost use Rattle.paper.specs.Sets.{bit};
 ghost use Rattle.paper.specs.Table.{proper};
@@ -15,7 +17,7 @@ use table::cell;
 use tokens::{is_attribute, is_start, is_value, number};
 
 // Where a walk stands: at a place, after a start of the element and the attribute. As in the definition, both are 0 before the first.
-#[derive(Drop)]
+#[derive(Clone, Copy)]
 pub struct Walk {
     pub place: usize,
     pub element: u32,

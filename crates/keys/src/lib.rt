@@ -3,6 +3,8 @@
 // Each ID is marked in a field of bits, one for each value, and what was met earlier is asked of the field. References are a second pass,
 // over the field of all IDs. A document with no key pays for no field. Any tokens are taken; the table is a proper one.
 // Assumes nothing.
+#![tactic(auto)]
+
 ghost use Rattle.std.specs.Prelude.{◌≡◌, true, [], ◌+◌, ◌-◌, ◌^◌, ◌≤◌, ◌<◌, length, take};
 ghost use Rattle.paper.specs.Basics.{most_tokens};
 ghost use Rattle.paper.specs.Table.{proper};
@@ -21,21 +23,21 @@ use key_walk::{Walk, is_id, is_reference, is_value_at, next_key, pass};
 use tokens::{is_value, number};
 
 // The answer's number and place; 0 and 0: no fault.
-#[derive(Drop)]
+#[derive(Clone, Copy)]
 pub struct Fault {
     pub number: u32,
     pub place: u32,
 }
 
 // The references met: so many, the first of them from the walk on.
-#[derive(Drop)]
+#[derive(Clone, Copy)]
 struct Refs {
     at: Walk,
     count: usize,
 }
 
 // What a pass over the IDs finds: the first that was met earlier, and the references.
-#[derive(Drop)]
+#[derive(Clone, Copy)]
 struct Marked {
     fault: Fault,
     refs: Refs,

@@ -1,6 +1,8 @@
 // The lines that the edit program prints, put into a buffer one after another.
 //
 // A call puts the bytes of a line from a place on and answers the place after them. Assumes nothing.
+#![tactic(auto)]
+
 ghost use Rattle.std.specs.Prelude.{◌+◌, ◌≤◌, ◌<◌, length};
 ghost use Rattle.paper.specs.Program.{halt, line};
 ghost use Rattle.lines.specs.Put.{Put};

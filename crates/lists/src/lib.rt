@@ -2,6 +2,8 @@
 //
 // `list` asks nothing of its arguments. The list's own fault comes first. Table and shape are tested once, as answers of the first edit: a
 // done edit leaves a document with shape. After it IDs and references are kept from edit to edit. No inverse is written. Assumes nothing.
+#![tactic(auto)]
+
 ghost use Rattle.std.specs.Prelude.{◌≡◌, true, ◌≤◌, length, take, drop};
 ghost use Rattle.paper.specs.Basics.{most_tokens};
 ghost use Rattle.paper.specs.Tokens.{toks};
@@ -21,7 +23,7 @@ use key_moves::VALUES;
 use next_edits::{kept_edit, next_edit};
 
 // "Document, last answer and number of edits done": the answer of the last edit that was run, and how many were done, without a refused one.
-#[derive(Drop)]
+#[derive(Clone, Copy)]
 pub struct Listed {
     pub last: Answer,
     pub done: u32,
@@ -100,7 +102,7 @@ fn learn_and_go_on(
 }
 
 // The answer of a list's first edit, and the place behind it.
-#[derive(Drop)]
+#[derive(Clone, Copy)]
 struct First {
     answer: Answer,
     to: usize,

@@ -1,4 +1,6 @@
 // The names of a content model, listed from its symbols. Assumes nothing.
+#![tactic(auto)]
+
 ghost use Rattle.std.specs.Prelude.{◌≡◌, ◌≤◌, length};
 ghost use Rattle.std.proofs.lemmas.List.Edits.{sets};
 ghost use Rattle.model_names.specs.Listed.{names_in};

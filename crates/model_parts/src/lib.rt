@@ -1,6 +1,8 @@
 // The parts of a content model: what is kept of an expression that was read, and how the parts of an operator make the whole.
 //
 // A set is a word, bit k for occurrence k. Assumes nothing.
+#![tactic(auto)]
+
 ghost use Rattle.std.specs.Prelude.{◌≡◌, false, ◌+◌, ◌<◌, ◌^◌};
 ghost use Rattle.paper.specs.Basics.{most_names};
 ghost use Rattle.model_parts.specs.Parts.{single, sequence, choice, also};
@@ -9,7 +11,7 @@ use sets::{one, when};
 
 // An expression that was read, if `ok`: the place after it, the number of the next occurrence, whether no child at all matches,
 // and the sets of its first and last occurrences.
-#[derive(Drop)]
+#[derive(Clone, Copy)]
 pub struct Part {
     pub ok: bool,
     pub next: usize,

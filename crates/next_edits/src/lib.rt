@@ -2,6 +2,8 @@
 //
 // Both are of a document with shape, by a proper table: what a single call comes to "with room for its inverse". "It writes no inverses." The
 // edited tokens are made in a buffer that is lent for it. Assumes nothing.
+#![tactic(auto)]
+
 ghost use Rattle.std.specs.Prelude.{◌≡◌, true, [], length, take};
 ghost use Rattle.paper.specs.Basics.{most_tokens};
 ghost use Rattle.paper.specs.Tokens.{toks};

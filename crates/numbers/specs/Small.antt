@@ -11,10 +11,10 @@ file_both [] m = refl
 file_both (n ∷ l) m = ap (λ t. bytes_of n ++ t) (file_both l m) ∙ sym (append_assoc (bytes_of n) (file_of l) (file_of m))
 
 -- each is below 128
-abbrev pub Small : List ℕ → Type 0
-Small l = all (λ n. ltb n 128) l ≡ true
+abbrev pub IsSmall : List ℕ → Type 0
+IsSmall l = all (λ n. ltb n 128) l ≡ true
 
-pub file_small : (l : List ℕ) → Small l → file_of l ≡ l
+pub file_small : (l : List ℕ) → IsSmall l → file_of l ≡ l
 file_small [] h = refl
 file_small (n ∷ l) h =
     let (a, b) = (and-eq-true_iff (ltb n 128) (all (λ n. ltb n 128) l)).0 h in

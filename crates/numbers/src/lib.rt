@@ -2,13 +2,15 @@
 //
 // Nothing is asked of the bytes that are read: a number that is not whole, not of the shortest form or too long is `Broken`.
 // Assumes nothing.
+#![tactic(auto)]
+
 ghost use Rattle.std.specs.Prelude.{◌≡◌, ◌<◌, length, drop};
 ghost use Rattle.paper.specs.Files.{bytes_of, second, third};
 ghost use Rattle.numbers.specs.At.{placed, num_at};
 ghost use Rattle.numbers.specs.Store.{Storable, stored};
 
 // What stands at a place: a number, with the place after it, or none.
-#[derive(Drop)]
+#[derive(Clone, Copy)]
 pub enum Num {
     Broken,
     Got { value: u32, next: usize },

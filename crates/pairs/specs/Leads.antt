@@ -9,7 +9,7 @@ use Rattle.paper.specs.Rules.{State, start, at, move}
 use Rattle.table.specs.Run.{stepped, inside, Ready}
 use Rattle.paper.specs.Basics.{sequence_places}
 use Rattle.inclusion_laws.specs.Pairs.{stops, Pair, state_number, run_number, Inside, InsideRun, run_below, pairs}
-use Rattle.pairs.specs.Number.{run_at, run_at, old_at, new_at, Paired, join_number, leads_to}
+use Rattle.pairs.specs.Number.{run_at, run_at_lem, old_at, new_at, Paired, join_number, leads_to}
 
 inside_true : (b : List ℕ) (o : Option State) → InsideRun b o → inside b o ≡ true
 inside_true b none i = refl
@@ -31,26 +31,26 @@ module _ (old new : List ℕ) (r : Ready old) (q : Ready new) (x : Pair) (i : In
   remainder : p % 66 ≡ run_number x.is
   remainder = omega (arith, div-add-mod' p 66, quotient)
 
-  old_at : old_at p ≡ some x.was
-  old_at = let n : p / 66 + 1 ≡ run_number (some x.was) = omega (arith, quotient) in ap run_at n ∙ run_at (some x.was)
+  old_at_lem : old_at p ≡ some x.was
+  old_at_lem = let n : p / 66 + 1 ≡ run_number (some x.was) = omega (arith, quotient) in ap run_at n ∙ run_at_lem (some x.was)
 
-  new_at : new_at p ≡ x.is
-  new_at = ap run_at remainder ∙ run_at x.is
+  new_at_lem : new_at p ≡ x.is
+  new_at_lem = ap run_at remainder ∙ run_at_lem x.is
 
   pub paired : Paired old new p
   paired = record {
     old_ready = r;
     new_ready = q;
-    old_inside = ap (inside old) old_at ∙ inside_true old (some x.was) i;
-    new_inside = ap (inside new) new_at ∙ inside_true new x.is j;
+    old_inside = ap (inside old) old_at_lem ∙ inside_true old (some x.was) i;
+    new_inside = ap (inside new) new_at_lem ∙ inside_true new x.is j;
   }
 
   pub losing_pair : stops old (old_at p) && not (stops new (new_at p)) ≡ (pairs old new).losing x
-  losing_pair = ap₂ (λ a b. stops old a && not (stops new b)) old_at new_at
+  losing_pair = ap₂ (λ a b. stops old a && not (stops new b)) old_at_lem new_at_lem
 
   pub leads_pair : (a : ℕ) → leads_to old new p a ≡ numbered old new ((pairs old new).step x a)
   unfolding leads_to
-  leads_pair a = ap₂ (λ s t. join_number (run_number (stepped old s a)) (run_number (stepped new t a))) old_at new_at ∙ go (move old x.was a)
+  leads_pair a = ap₂ (λ s t. join_number (run_number (stepped old s a)) (run_number (stepped new t a))) old_at_lem new_at_lem ∙ go (move old x.was a)
     where
       go : (o : Option ℕ) → join_number (run_number (elim o [ none ↦ none | some k ↦ some (at k) ])) (run_number (stepped new x.is a))
           ≡ numbered old new (elim o as (λ z. Option Pair) [ none ↦ none | some k ↦ some (record { was = at k; is = stepped new x.is a }) ])

@@ -16,10 +16,10 @@ use Rattle.inclusion_laws.specs.Pairs.{stops, run_number}
 abbrev pub run_at : ℕ → Option State
 run_at n = cond (eqb n 0) none (cond (eqb n 1) (some start) (some (at (n - 2))))
 
-pub run_at : (o : Option State) → run_at (run_number o) ≡ o
-run_at none = refl
-run_at (some start) = refl
-run_at (some (at k)) =
+pub run_at_lem : (o : Option State) → run_at (run_number o) ≡ o
+run_at_lem none = refl
+run_at_lem (some start) = refl
+run_at_lem (some (at k)) =
     let z : suc (suc k) - 2 ≡ k = omega arith in
     rw (ne_eqb (suc (suc k)) 0 (omega arith), ne_eqb (suc (suc k)) 1 (omega arith), z)
 

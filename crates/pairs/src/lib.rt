@@ -2,6 +2,8 @@
 //
 // A sequence is lost where the old content may end and the new one may not. A child for which the new run has no next occurrence leads
 // on: the new run is lost from there, and the old one goes on alone. Nothing is written. Assumes nothing.
+#![tactic(auto)]
+
 ghost use Rattle.std.specs.Prelude.{◌≡◌, true, not, ◌&&◌, ◌<◌};
 ghost use Rattle.table.specs.Run.{state_of, inside, Ready};
 ghost use Rattle.inclusion_laws.specs.Pairs.{run_number, stops};

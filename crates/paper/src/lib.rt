@@ -2,6 +2,7 @@
 //
 // Here stand the paper's numbers, each at its one home, and the types that definitions and code share.
 // Assumes nothing.
+#![tactic(auto)]
 
 // ---- The paper's numbers, for code, under the names of include/shrikemuff.h; specs/ has them for definitions.
 
@@ -182,7 +183,7 @@ pub const NOT_COMPARED: u32 = 16;
 // ---- Tokens
 
 // A token, read.
-#[derive(Drop)]
+#[derive(Clone, Copy)]
 pub enum Tok {
     Start(u32),
     End,

@@ -52,12 +52,12 @@ and_digit (suc zero) (suc zero) h l = refl
 and_digit (suc zero) (suc (suc y)) h l = absurd (omega arith)
 and_digit (suc (suc x)) y h l = absurd (omega arith)
 
-pub bit_or : (v w k : ℕ) → bit (bit_or v w) k ≡ (bit v k || bit w k)
-bit_or v w k =
+pub bit_of_or : (v w k : ℕ) → bit (bit_or v w) k ≡ (bit v k || bit w k)
+bit_of_or v w k =
     rw (or_shr v w k, or_mod (v / 2 ^ k) (w / 2 ^ k) 1) (or_digit (v / 2 ^ k % 2) (w / 2 ^ k % 2) (mod-lt _ two_pos) (mod-lt _ two_pos))
 
-pub bit_and : (v w k : ℕ) → bit (bit_and v w) k ≡ (bit v k && bit w k)
-bit_and v w k =
+pub bit_of_and : (v w k : ℕ) → bit (bit_and v w) k ≡ (bit v k && bit w k)
+bit_of_and v w k =
     rw (and_shr v w k, and_mod (v / 2 ^ k) (w / 2 ^ k) 1) (and_digit (v / 2 ^ k % 2) (w / 2 ^ k % 2) (mod-lt _ two_pos) (mod-lt _ two_pos))
 
 -- ---- no member, one member
@@ -114,14 +114,14 @@ none_zero = bin_ind (λ w. ((k : ℕ) → bit w k ≡ false) → w ≡ 0) (λ f.
 
 pub within_iff : (n a b : ℕ) → a < 2 ^ n → (bit_and a b ≡ a) ↔ ((k : ℕ) → k < n → bit a k ≡ true → bit b k ≡ true)
 within_iff n a b h = (
-  λ e k i m. ((and-eq-true_iff (bit a k) (bit b k)).0 (sym (bit_and a b k) ∙ ap (λ w. bit w k) e ∙ m)).1,
-  λ f. same_bits n (bit_and a b) a (lt_of_le_of_lt (and_le_l a b) h) h (λ k i. bit_and a b k ∙ meet (bit a k) (bit b k) (f k i)),
+  λ e k i m. ((and-eq-true_iff (bit a k) (bit b k)).0 (sym (bit_of_and a b k) ∙ ap (λ w. bit w k) e ∙ m)).1,
+  λ f. same_bits n (bit_and a b) a (lt_of_le_of_lt (and_le_l a b) h) h (λ k i. bit_of_and a b k ∙ meet (bit a k) (bit b k) (f k i)),
 )
 
 pub apart_iff : (n a b : ℕ) → a < 2 ^ n → (bit_and a b ≡ 0) ↔ ((k : ℕ) → k < n → (bit a k && bit b k) ≡ false)
 apart_iff n a b h = (
-  λ e k i. sym (bit_and a b k) ∙ ap (λ w. bit w k) e ∙ bit_zero k,
-  λ f. same_bits n (bit_and a b) 0 (lt_of_le_of_lt (and_le_l a b) h) (pow_pos n) (λ k i. bit_and a b k ∙ f k i ∙ sym (bit_zero k)),
+  λ e k i. sym (bit_of_and a b k) ∙ ap (λ w. bit w k) e ∙ bit_zero k,
+  λ f. same_bits n (bit_and a b) 0 (lt_of_le_of_lt (and_le_l a b) h) (pow_pos n) (λ k i. bit_of_and a b k ∙ f k i ∙ sym (bit_zero k)),
 )
 
 -- ---- `1 << k`, `w >> k & 1`, `w >> n == 0`

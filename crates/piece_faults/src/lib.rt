@@ -2,6 +2,8 @@
 //
 // Where one element comes, one text, or neither, the tokens behind the piece are not asked for. So the matching ends are found for the
 // piece alone, and a piece of so many tokens costs as much in a long document as in a short one. Nothing is written. Assumes nothing.
+#![tactic(auto)]
+
 ghost use Rattle.std.specs.Prelude.{◌≡◌, true, ◌+◌, ◌≤◌, length};
 ghost use Rattle.paper.specs.Basics.{most_tokens};
 ghost use Rattle.paper.specs.Table.{proper};

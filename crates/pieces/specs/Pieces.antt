@@ -120,14 +120,14 @@ module _ {y : Bool} where
       ap₂ eqb a b ∙ sym (attr_head some_values (tok_of x) (toks (z ∷ p)) ∙ ap (λ b. b && some_values (toks (z ∷ p))) w)
 
 -- its number
-attr_number : (r : List Tok) (n : ℕ) → head_tok r ≡ Attr n → n ≡ attr_number r
-attr_number [] n e = cc
-attr_number (Start m ∷ r) n e = cc
-attr_number (End ∷ r) n e = cc
-attr_number (Text m ∷ r) n e = cc
-attr_number (Attr m ∷ r) n e = cc
-attr_number (Value m ∷ r) n e = cc
-attr_number (Bad ∷ r) n e = cc
+attr_number_lem : (r : List Tok) (n : ℕ) → head_tok r ≡ Attr n → n ≡ attr_number r
+attr_number_lem [] n e = cc
+attr_number_lem (Start m ∷ r) n e = cc
+attr_number_lem (End ∷ r) n e = cc
+attr_number_lem (Text m ∷ r) n e = cc
+attr_number_lem (Attr m ∷ r) n e = cc
+attr_number_lem (Value m ∷ r) n e = cc
+attr_number_lem (Bad ∷ r) n e = cc
 
 no_number : (r : List Tok) → attr_tok (head_tok r) ≡ false → 0 ≡ attr_number r
 no_number [] e = refl
@@ -143,7 +143,7 @@ module _ (p : List ℕ) {t : ℕ} (et : t ≡ get_or (take (length p) p) 0 0) {y
   first = ap tok_of (et ∙ ap (λ l. get_or l 0 0) (take-length p)) ∙ head_is p 0
 
   pub number_some : y ≡ true → {n : ℕ} → n ≡ t / 8 → n ≡ attr_number (toks p)
-  number_some e en = en ∙ attr_number (toks p) (t / 8) (sym first ∙ (attr_iff t).0 (sym ey ∙ e))
+  number_some e en = en ∙ attr_number_lem (toks p) (t / 8) (sym first ∙ (attr_iff t).0 (sym ey ∙ e))
 
   pub number_none : y ≡ false → 0 ≡ attr_number (toks p)
   number_none e = no_number (toks p) (ap attr_tok (sym first) ∙ sym ey ∙ e)

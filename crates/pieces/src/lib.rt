@@ -2,6 +2,8 @@
 //
 // Nothing is asked of a piece.
 // Assumes nothing.
+#![tactic(auto)]
+
 ghost use Rattle.std.specs.Prelude.{◌≡◌};
 ghost use Rattle.paper.specs.Basics.{null};
 ghost use Rattle.paper.specs.Tokens.{toks};

@@ -2,6 +2,8 @@
 //
 // It holds of any document; what it asks is that the length lies in the slice.
 // Assumes nothing.
+#![tactic(auto)]
+
 ghost use Rattle.std.specs.Prelude.{◌≡◌, ◌≤◌, length, take};
 ghost use Rattle.paper.specs.Tokens.{tok_of, toks};
 ghost use Rattle.paper.specs.Edits.{opens, opens_or_ends};
@@ -13,7 +15,7 @@ use slots::{held_at, slot_at};
 use tokens::{is_end, is_start, is_text};
 
 // Where an edit changes the document and how many tokens go there, if its place is one that the operation takes.
-#[derive(Drop)]
+#[derive(Clone, Copy)]
 pub struct Plan {
     pub ok: bool,
     pub at: usize,

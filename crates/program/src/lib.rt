@@ -2,6 +2,8 @@
 //
 // `output` goes over schema, document, check and edits in turn and puts the lines into a buffer. It asks nothing of the files. Assumes
 // nothing.
+#![tactic(auto)]
+
 ghost use Rattle.std.specs.Prelude.{◌≡◌, true, ◌&&◌, ◌≤◌, length};
 ghost use Rattle.std.proofs.Math.Option.{some};
 ghost use Rattle.paper.specs.Basics.{most_file};

@@ -8,16 +8,16 @@ use Rattle.paper.specs.SchemaWritten.{MeetsAmbiguous}
 use Rattle.paper.specs.Table.{table_length, table_of, translated, translate}
 use Rattle.answer_laws.specs.Translator.{schema_stops}
 use Rattle.answer_laws.specs.Judged.{each}
-use Rattle.schema_laws.specs.Written.{bytes_of}
+use Rattle.schema_laws.specs.Written.{bytes_of_lem}
 use Rattle.schema_laws.specs.Taken.{taken_exactly, ambiguous_exactly}
 use Rattle.promises.specs.Calls.{papers}
 use Rattle.promises.specs.Statements.{FileOf, TakenExactly, AmbiguousExactly, TranslateLength, TranslateDone, TranslateAmbiguous, TranslateElse}
 
 pub taken : TakenExactly
-taken file s b = taken_exactly file s (bytes_of file b)
+taken file s b = taken_exactly file s (bytes_of_lem file b)
 
 pub ambiguous : AmbiguousExactly
-ambiguous file b = ambiguous_exactly file (bytes_of file b)
+ambiguous file b = ambiguous_exactly file (bytes_of_lem file b)
 
 -- a file that is refused is refused with 1, 2 or 3
 abbrev Refusal : ℕ → Type 0
@@ -78,11 +78,11 @@ translate_ambiguous file table o e b l = (met (comes file table o e l (schema_of
     back m = let e = came file table o e l (stop 3) ((ambiguous file b).1 m) in rw e
 
 pub translate_else : TranslateElse papers
-translate_else file table o e b l no-schema no_model = go (comes file table o e l (schema_of file) refl)
+translate_else file table o e b l no-schema no_model_lem = go (comes file table o e l (schema_of file) refl)
   where
     one_or_two : (k : ℕ) → Refusal k → k ≢ 3 → (k ≡ 1) ⊎ (k ≡ 2)
     one_or_two k r n = elim (ℕ_discrete k 1) [ yes z ↦ inl z | no m ↦ inr (omega arith) ]
 
     go : Comes file table o e l → (o.0 ≡ 1) ⊎ (o.0 ≡ 2)
-    go (refuses k q r n) = rw n (one_or_two k r (λ z. no_model ((ambiguous file b).0 (rw z at q))))
+    go (refuses k q r n) = rw n (one_or_two k r (λ z. no_model_lem ((ambiguous file b).0 (rw z at q))))
     go (takes s r q n t) = absurd (no-schema s ((taken file s b).0 (r, q)))

@@ -173,7 +173,7 @@ module _ (a b : List ℕ → Bool) (s : List ℕ) where
   answer_tells (some w) (p, l) = record {
     yes_exactly = (λ z. absurd (omega arith), λ f. let (t, n) = (lost_iff (a w) (b w)).0 p.is_one in absurd (n (f w t)));
     nothing_written = λ z. absurd (omega arith);
-    otherwise = λ n. (refl, record { w = w; shortest_lost = shortest_iff (λ v. lost_iff (a v) (b v)) p; length_told = refl; short = l; written = refl });
+    otherwise = λ n. (refl, record { w = w; shortest_lost_lem = shortest_iff (λ v. lost_iff (a v) (b v)) p; length_told = refl; short = l; written = refl });
   }
 
 -- contents that take the same sequences are told of alike
@@ -185,7 +185,7 @@ told_iff i j t = record {
     z,
     record {
       w = r.w;
-      shortest_lost = shortest_iff (λ v. (λ (p, q). ((i v).0 p, λ x. q ((j v).1 x)), λ (p, q). ((i v).1 p, λ x. q ((j v).0 x)))) r.shortest_lost;
+      shortest_lost_lem = shortest_iff (λ v. (λ (p, q). ((i v).0 p, λ x. q ((j v).1 x)), λ (p, q). ((i v).1 p, λ x. q ((j v).0 x)))) r.shortest_lost_lem;
       length_told = r.length_told;
       short = r.short;
       written = r.written;

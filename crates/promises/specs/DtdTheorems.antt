@@ -38,14 +38,14 @@ module _ (calls : Calls) (is : Faithful calls) where
   pub spot_determinate : dtd.SpotDeterminate calls
   spot_determinate i o p a b = is.spots _ o a ∙ sym (is.spots _ p b)
 
-  pub import_answers : dtd.ImportAnswers calls
-  import_answers text buffer o i = import.import_answers text buffer o (is.imports text buffer o i)
+  pub import_answers_lem : dtd.ImportAnswers calls
+  import_answers_lem text buffer o i = import.import_answers_lem text buffer o (is.imports text buffer o i)
 
-  pub names_answers : dtd.NamesAnswers calls
-  names_answers text buffer o n = import.names_answers text buffer o (is.names text buffer o n)
+  pub names_answers_lem : dtd.NamesAnswers calls
+  names_answers_lem text buffer o n = import.names_answers_lem text buffer o (is.names text buffer o n)
 
-  pub spot_answers : dtd.SpotAnswers calls
-  spot_answers text p s = import.spot_answers text p (is.spots text p s)
+  pub spot_answers_lem : dtd.SpotAnswers calls
+  spot_answers_lem text p s = import.spot_answers_lem text p (is.spots text p s)
 
   pub import_keeps : dtd.ImportKeeps calls
   import_keeps text buffer o i = always.import_keeps text buffer o (is.imports text buffer o i)

@@ -18,7 +18,7 @@ record Found (l : List Attribute) (a : ℕ) : Type 0 where
   pub it : Attribute
   pub behind : List Attribute
   pub split : l ≡ before ++ it ∷ behind
-  pub is_fixed : is_fixed it ≡ true
+  pub is_fixed_lem : is_fixed it ≡ true
   pub number : a ≡ it.number
 
 found : (l : List Attribute) (a v : ℕ) → first_with (λ y. is_fixed y && eqb a y.number) (λ y. y.value) l ≡ some v → Found l a
@@ -29,10 +29,10 @@ found (y ∷ l) a v e = by (is_fixed y && eqb a y.number) refl e (found l a v)
         → (first_with (λ y. is_fixed y && eqb a y.number) (λ y. y.value) l ≡ some v → Found l a) → Found (y ∷ l) a
     by true p e h =
         let (f, n) = (and-eq-true_iff (is_fixed y) (eqb a y.number)).0 p in
-        record { before = []; it = y; behind = l; split = refl; is_fixed = f; number = eqb-true a y.number n }
+        record { before = []; it = y; behind = l; split = refl; is_fixed_lem = f; number = eqb-true a y.number n }
     by false p e h =
         let r = h e in
-        record { before = y ∷ r.before; it = r.it; behind = r.behind; split = ap (λ t. y ∷ t) r.split; is_fixed = r.is_fixed; number = r.number }
+        record { before = y ∷ r.before; it = r.it; behind = r.behind; split = ap (λ t. y ∷ t) r.split; is_fixed_lem = r.is_fixed_lem; number = r.number }
 
 -- what the attributes of an element of a schema keep to
 record Keeps (l : List Attribute) : Type 0 where
@@ -55,11 +55,11 @@ module _ (x : Element) (k : Keeps x.attributes) (a v : ℕ) (e : fixed_to x a �
       ∙ at_own P it.before it.behind it.it 0 false (subst (Rising 0 false) it.split k.rising)
 
   cdata : it.it.kind ≡ 0
-  cdata = (fixed_fine it.before it.behind it.it (subst Fixes it.split k.fixes) it.is_fixed).0
+  cdata = (fixed_fine it.before it.behind it.it (subst Fixes it.split k.fixes) it.is_fixed_lem).0
 
   not_required : ¬ T (has is_required x a)
   not_required t =
-      let two = eqb-true it.it.status 2 it.is_fixed in
+      let two = eqb-true it.it.status 2 it.is_fixed_lem in
       subst T (has_is is_required ∙ ne_eqb it.it.status 0 (λ z. omega arith)) t
 
   no_other : (n : ℕ) → T (has (of_kind n) x a) → n ≡ 0

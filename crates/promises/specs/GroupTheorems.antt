@@ -25,8 +25,8 @@ module _ (calls : Calls) (is : Faithful calls) where
   pub group_determinate : promised.GroupDeterminate calls
   group_determinate i o p a b = grouped.determinate i o p (is.performs_group _ _ _ _ _ o a) (is.performs_group _ _ _ _ _ p b)
 
-  pub group_answers : promised.GroupAnswers calls
-  group_answers table buffer used list second o p = grouped.answers table buffer used list second o (is.performs_group table buffer used list second o p)
+  pub group_answers_lem : promised.GroupAnswers calls
+  group_answers_lem table buffer used list second o p = grouped.answers table buffer used list second o (is.performs_group table buffer used list second o p)
 
   pub group_order : promised.GroupOrder calls
   group_order table buffer used list second o p = grouped.order table buffer used list second o (is.performs_group table buffer used list second o p)

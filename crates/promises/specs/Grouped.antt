@@ -16,7 +16,7 @@ use Rattle.paper.specs.Groups.{Work, worked, GroupOutcome, verdict, reached_in, 
 use Rattle.group_laws.specs.Worked.{Refused, Reached, worked_told, not_both, longest_most, shape_alone, shape_after}
 use Rattle.group_laws.specs.Second.{Reaches, none_longer, one_as_long, second_told}
 use Rattle.group_laws.specs.Kept as laws
-use Rattle.group_laws.specs.Numbers.{group_answers}
+use Rattle.group_laws.specs.Numbers.{group_answers_lem}
 use Rattle.promises.specs.Calls.{papers}
 use Rattle.promises.specs.Statements.{Translated}
 use Rattle.promises.specs.Groups.{InOrder, Begins, FirstKept, Stops, SecondHolds, FirstRefused, GroupRight, GroupDeterminate, GroupAnswers, GroupOrder, GroupKeeps, GroupSecond, GroupLengths}
@@ -29,7 +29,7 @@ pub determinate : GroupDeterminate papers
 determinate i o p a b = a ∙ sym b
 
 pub answers : GroupAnswers papers
-answers table buffer used list second o e = rw e (group_answers table buffer used list second)
+answers table buffer used list second o e = rw e (group_answers_lem table buffer used list second)
 
 pub keeps : GroupKeeps papers
 keeps table buffer used list second o e = laws.group_keeps table buffer used list second o e

@@ -34,7 +34,7 @@ pub record InOrder (old new : List ℕ) (e : ℕ) (buffer : List ℕ) (number : 
 -- the sequence keep their contents". It has fewer than 4,290 names, so that the buffer is always enough.
 pub record Wrote (Old New : List ℕ → Type 0) (buffer : List ℕ) (o : Compared) : Type 0 where
   pub w : List ℕ
-  pub shortest_lost : ShortestOf (λ v. Old v × ¬ New v) w
+  pub shortest_lost_lem : ShortestOf (λ v. Old v × ¬ New v) w
   pub length_told : o.len ≡ length w
   pub short : length w < sequence_places
   pub written : o.buffer ≡ w ++ drop (length w) buffer

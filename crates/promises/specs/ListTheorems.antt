@@ -11,8 +11,8 @@ module _ (calls : Calls) (is : Faithful calls) where
   pub list_determinate : promised.ListDeterminate calls
   list_determinate i o p a b = listed.determinate i o p (is.performs_list _ _ _ _ _ o a) (is.performs_list _ _ _ _ _ p b)
 
-  pub list_answers : promised.ListAnswers calls
-  list_answers table buffer used list counts o p = listed.answers table buffer used list counts o (is.performs_list table buffer used list counts o p)
+  pub list_answers_lem : promised.ListAnswers calls
+  list_answers_lem table buffer used list counts o p = listed.answers table buffer used list counts o (is.performs_list table buffer used list counts o p)
 
   pub list_faults : promised.ListFaults calls
   list_faults table buffer used list counts o p = listed.faults table buffer used list counts o (is.performs_list table buffer used list counts o p)

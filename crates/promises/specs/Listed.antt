@@ -24,7 +24,7 @@ use Rattle.back_laws.specs.Taken.{shape_document}
 use Rattle.list_laws.specs.Exactly.{split_exactly, four_exactly, five_exactly, four_or_five}
 use Rattle.list_laws.specs.Singles.{singles_done}
 use Rattle.list_laws.specs.Listed.{singles as first_done, list_refused, list_is_singles, done_stands}
-use Rattle.answer_laws.specs.Edit.{edit_answers}
+use Rattle.answer_laws.specs.Edit.{edit_answers_lem}
 use Rattle.promises.specs.Calls.{papers}
 use Rattle.promises.specs.Right.{Kept, TrueBeside, Step, EachRight}
 use Rattle.promises.specs.Statements.{Runs}
@@ -54,7 +54,7 @@ faults table buffer used list counts o p =
 -- ---- the answers
 
 next_answers : (table : List ℕ) (o : Outcome) (q : Request) → Answers edit_answers (next_edit table o q).number (next_edit table o q).place
-next_answers table o q = edit_answers table o.buffer o.used q second o.counts (edit table o.buffer o.used q second o.counts) refl
+next_answers table o q = edit_answers_lem table o.buffer o.used q second o.counts (edit table o.buffer o.used q second o.counts) refl
 
 run_answers : (table : List ℕ) (es : List Request) (k : ℕ) (o : Outcome) → Answers edit_answers o.number o.place
     → let x : Listed Outcome = run_list (next_edit table) number_of k o es in Answers edit_answers x.last.number x.last.place

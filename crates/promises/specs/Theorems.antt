@@ -10,7 +10,7 @@ use Rattle.paper.specs.Validity.{ValidDocument}
 use Rattle.content_laws.specs.Theorems as content
 use Rattle.shape_laws.specs.Tree.{shape_is_tree}
 use Rattle.shape_laws.specs.TreeDepth as tree-depth
-use Rattle.schema_laws.specs.Written.{bytes_of}
+use Rattle.schema_laws.specs.Written.{bytes_of_lem}
 use Rattle.judge_laws.specs.Judged.{checked_valid}
 use Rattle.judge_laws.specs.Begun.{names_begun}
 use Rattle.judge_laws.specs.Children.{child_there, children_before, past_last}
@@ -117,14 +117,14 @@ module _ (calls : Calls) (is : Faithful calls) where
   pub translate_answers : promised.TranslateAnswers calls
   translate_answers file table o t = translator.translate_answers file table o (is.translates file table o t)
 
-  pub check_answers : promised.CheckAnswers calls
-  check_answers table buffer used counts o c = check.check_answers table buffer used o.0 (ap (λ (x : Answer × List ℤ). x.0) (is.checks table buffer used counts o c))
+  pub check_answers_lem : promised.CheckAnswers calls
+  check_answers_lem table buffer used counts o c = check.check_answers_lem table buffer used o.0 (ap (λ (x : Answer × List ℤ). x.0) (is.checks table buffer used counts o c))
 
   pub check_never_7 : promised.CheckNever7 calls
   check_never_7 table buffer used counts o c = check.check_never_7 table buffer used o.0 (ap (λ (x : Answer × List ℤ). x.0) (is.checks table buffer used counts o c))
 
-  pub edit_answers : promised.EditAnswers calls
-  edit_answers table buffer used q second counts o p = edit.edit_answers table buffer used q second counts o (is.performs table buffer used q second counts o p)
+  pub edit_answers_lem : promised.EditAnswers calls
+  edit_answers_lem table buffer used q second counts o p = edit.edit_answers_lem table buffer used q second counts o (is.performs table buffer used q second counts o p)
 
   pub read_keeps : promised.ReadKeeps calls
   read_keeps file buffer o r = always.read_keeps file buffer o (is.reads file buffer o r)
@@ -142,7 +142,7 @@ module _ (calls : Calls) (is : Faithful calls) where
 
   pub read_then_write : promised.ReadThenWrite calls
   read_then_write file buffer room o p b r z w y =
-      (read_write file buffer room o p (bytes_of file b) (is.reads file buffer o r) z (is.writes _ room p w) y).0
+      (read_write file buffer room o p (bytes_of_lem file b) (is.reads file buffer o r) z (is.writes _ room p w) y).0
 
   pub write_then_read : promised.WriteThenRead calls
   write_then_read tokens buffer room o p w z r y =
@@ -150,7 +150,7 @@ module _ (calls : Calls) (is : Faithful calls) where
 
   pub read_then_write_done : promised.ReadThenWriteDone calls
   read_then_write_done file buffer room o p b r z w l =
-      read_write_done file buffer room o p (bytes_of file b) (is.reads file buffer o r) z (is.writes _ room p w) l
+      read_write_done file buffer room o p (bytes_of_lem file b) (is.reads file buffer o r) z (is.writes _ room p w) l
 
   pub write_then_read_done : promised.WriteThenReadDone calls
   write_then_read_done tokens buffer room o p w z r l =
@@ -230,8 +230,8 @@ module _ (calls : Calls) (is : Faithful calls) where
   pub compare_determinate : inclusion.CompareDeterminate calls
   compare_determinate i o p a b = compared.determinate i o p (is.compares _ _ _ _ o a) (is.compares _ _ _ _ p b)
 
-  pub compare_answers : inclusion.CompareAnswers calls
-  compare_answers old new e buffer o c = compare.compare_answers old new e buffer o (is.compares old new e buffer o c)
+  pub compare_answers_lem : inclusion.CompareAnswers calls
+  compare_answers_lem old new e buffer o c = compare.compare_answers_lem old new e buffer o (is.compares old new e buffer o c)
 
   pub compare_keeps : inclusion.CompareKeeps calls
   compare_keeps old new e buffer o c = compared.keeps old new e buffer o (is.compares old new e buffer o c)

@@ -2,6 +2,8 @@
 //
 // No table is trusted. `proper` takes any slice, and refuses what the paper does not call proper. Numbers that must be 0 are joined
 // into one word, so that a table is read once, with no branch for each number. Nothing is written. Assumes nothing.
+#![tactic(auto)]
+
 ghost use Rattle.std.specs.Prelude.{◌≡◌, ◌≤◌, ltb, length};
 ghost use Rattle.paper.specs.Basics.{all, most_elements, most_names};
 ghost use Rattle.paper.specs.Table;

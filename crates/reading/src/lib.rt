@@ -1,6 +1,8 @@
 // Files of numbers, read one number after another from the front.
 //
 // A number is read with the place after it, or refused: it is broken, or out of its range. Assumes nothing.
+#![tactic(auto)]
+
 ghost use Rattle.std.specs.Prelude.{◌≡◌};
 ghost use Rattle.reading.specs.Ended.{no_place};
 ghost use Rattle.reading.specs.Number.{no_step, Numbered};
@@ -9,7 +11,7 @@ use numbers::{Num, number_at};
 use paper::{BROKEN, DONE, SCHEMA};
 
 // A number that was read: 0, its value and the place after it; or the refusal's number.
-#[derive(Drop)]
+#[derive(Clone, Copy)]
 pub struct Step {
     pub number: u32,
     pub value: u32,
@@ -52,7 +54,7 @@ pub fn number_in(file: &[u8], at: usize, low: u32, high: u32) -> Step
 }
 
 // What was read up to a place: 0 and the place, or the refusal's number.
-#[derive(Drop)]
+#[derive(Clone, Copy)]
 pub struct Place {
     pub number: u32,
     pub next: usize,

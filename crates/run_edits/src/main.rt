@@ -1,6 +1,8 @@
 // The edit program: reads schema.dat, doc.dat and edits.dat in the folder that it is started in, and prints the check and each edit.
 //
 // `input_files` opens and reads the three files, `program::output` makes every byte that is printed; here the bytes are written.
+#![tactic(auto)]
+
 ghost use Rattle.paper.specs.Program.{printed};
 ghost use Rattle.lines.specs.Put.{Put};
 ghost use Rattle.input_files.specs.Files.{Holds};

@@ -1,6 +1,8 @@
 // The scan of one element, a token at a time: whether a token may stand where the scan is, and the scan behind it.
 //
 // Both go by a table that is lent. Assumes nothing.
+#![tactic(auto)]
+
 ghost use Rattle.std.specs.Prelude.{◌≡◌, ◌+◌, ◌≤◌, ◌<◌, ◌%◌, ◌/◌};
 ghost use Rattle.paper.specs.Basics.{most_deep, most_number};
 ghost use Rattle.scan.specs.Scan.{rules, rule, stands, passed};
@@ -33,7 +35,7 @@ pub const RULES: [[u32; 8]; 5] = [
 
 // What the tokens passed leave: the sorts that may stand next, a bit for each; the least number that an attribute may have there;
 // and how many elements are open.
-#[derive(Drop)]
+#[derive(Clone, Copy)]
 pub struct Scan {
     pub next: u32,
     pub least: u32,

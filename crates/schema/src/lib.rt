@@ -3,6 +3,8 @@
 // The file is read from the front, one number after another, and the table is made in two local arrays, its blocks and the entries of
 // fixed attributes, which are copied out at the end: a refused file leaves the lent table as it was. Nothing is asked of the file or of
 // the table. Assumes nothing.
+#![tactic(auto)]
+
 ghost use Rattle.std.specs.Prelude.{◌≡◌, [], ◌≤◌, length, replicate};
 ghost use Rattle.paper.specs.Basics.{most_elements};
 ghost use Rattle.paper.specs.Table.{fixed_at, block_length, fixed_numbers};

@@ -74,11 +74,11 @@ module _ (n low : ℕ) (had : Bool) (met : ℕ) (others : (low : ℕ) (had : Boo
   number_of = number_exact low (most_attributes - 1) (omega arith)
 
   status_of : (k : ℕ) → Exact (number 0 (most_status k met)) (λ s. leb s (most_status k met) ≡ true) (λ s. s ∷ []) Nowhere
-  status_of k = upto_exact (most_status k met) (Small (eqb k 0 && ltb met most_fixed))
+  status_of k = upto_exact (most_status k met) (IsSmall (eqb k 0 && ltb met most_fixed))
     where
-      Small : (b : Bool) → cond b 2 1 ≤ largest
-      Small true = omega arith
-      Small false = omega arith
+      IsSmall : (b : Bool) → cond b 2 1 ≤ largest
+      IsSmall true = omega arith
+      IsSmall false = omega arith
 
   -- the rest, behind an attribute of kind k and status s
   rest_of : (a k s : ℕ) → Attributes n (suc a) (had || eqb k 1) (met + cond (eqb s 2) 1 0)
@@ -140,16 +140,16 @@ module _ (E : ℕ) (h : E ≤ most_elements) where
     takes = λ x r p.
         let (content, few, attributes) = fit_parts met x p in
         rw (ahead_join, kind_body)
-        (then_takes kind_of _ (kind_of x.content) _ (kind_low x.content)
+        (then_takes kind_of_lem _ (kind_of x.content) _ (kind_low x.content)
         ∙ then_takes (content_exact E h (kind_of x.content) (kind_low x.content)) _ x.content _ (refl, content)
         ∙ then_takes count_of _ (length x.attributes) _ few
         ∙ then_takes (attributes_exact (length x.attributes) 0 false met) _ x.attributes r (refl, attributes));
     stops = λ s q.
         rw q.begins
-        (then_takes kind_of _ 2 _ refl
+        (then_takes kind_of_lem _ 2 _ refl
         ∙ then_stops (content_exact E h 2 refl) _ _ (refl, record { e = q.e; rest = q.rest; formed = q.formed; tangled = q.tangled; begins = refl }));
     ends = λ s b.
-        then_ends kind_of _ s b (λ z. absurd z) λ k t p low c.
+        then_ends kind_of_lem _ s b (λ z. absurd z) λ k t p low c.
         then_ends (content_exact E h k low) _ t c (λ q. around s k t p q) λ y u q good d.
         then_ends count_of _ u d (λ z. absurd z) λ n v i few j.
         then_ends (attributes_exact n 0 false met) _ v j (λ z. absurd z) λ z r o fine m.
@@ -158,8 +158,8 @@ module _ (E : ℕ) (h : E ≤ most_elements) where
         (rw (ahead_join, kind_body y, good.0, fine.0) (cc)) (rw (formed, fine.0, few, fine.1) clean);
   }
     where
-      kind_of : Exact (number 0 2) (λ k. leb k 2 ≡ true) (λ k. k ∷ []) Nowhere
-      kind_of = upto_exact 2 (omega arith)
+      kind_of_lem : Exact (number 0 2) (λ k. leb k 2 ≡ true) (λ k. k ∷ []) Nowhere
+      kind_of_lem = upto_exact 2 (omega arith)
 
       count_of : Exact (number 0 most_attributes) (λ k. leb k most_attributes ≡ true) (λ k. k ∷ []) Nowhere
       count_of = upto_exact most_attributes (omega arith)

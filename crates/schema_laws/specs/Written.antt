@@ -10,9 +10,9 @@ use Rattle.paper_laws.specs.Basics.{all_parts}
 -- ---- bytes
 
 -- what is said of a list of bytes, as the test
-pub bytes_of : (l : List ℕ) → ((u v : List ℕ) (b : ℕ) → l ≡ u ++ b ∷ v → b < 256) → bytes l ≡ true
-bytes_of [] h = refl
-bytes_of (b ∷ l) h = rw (lt-ltb b 256 (h [] l b refl)) (bytes_of l (λ u v c e. h (b ∷ u) v c (ap (λ t. b ∷ t) e)))
+pub bytes_of_lem : (l : List ℕ) → ((u v : List ℕ) (b : ℕ) → l ≡ u ++ b ∷ v → b < 256) → bytes l ≡ true
+bytes_of_lem [] h = refl
+bytes_of_lem (b ∷ l) h = rw (lt-ltb b 256 (h [] l b refl)) (bytes_of_lem l (λ u v c e. h (b ∷ u) v c (ap (λ t. b ∷ t) e)))
 
 -- ---- numbers, then bytes
 

@@ -7,10 +7,10 @@ use Rattle.std.specs.Int.Count.{count_trailing_zeros}
 use Rattle.paper.specs.Basics.{all, elem, distinct}
 use Rattle.paper.specs.Sets.{bit}
 use Rattle.paper.specs.Table.{chosen}
-use Rattle.paper_laws.specs.Words.{bit_or, bit_zero, bit_one}
+use Rattle.paper_laws.specs.Words.{bit_of_or, bit_zero, bit_one}
 use Rattle.basic_laws.specs.Numbers.{eqb_sym}
 use Rattle.sets.specs.Lowest.{cleared, turn}
-use Rattle.sets.specs.Chosen.{Small, chosen_none, chosen_cleared}
+use Rattle.sets.specs.Chosen.{IsSmall, chosen_none, chosen_cleared}
 
 -- no number of the list is a member of `seen`, and none stands twice
 abbrev pub unseen : ℕ → List ℕ → Bool
@@ -27,7 +27,7 @@ unseen_none l = parts 0 l ∙ ap (λ b. b && distinct l) (none l)
     also : (seen a : ℕ) (l : List ℕ) → all (λ x. not (bit (bit_or seen (2 ^ a)) x)) l ≡ (not (elem a l) && all (λ x. not (bit seen x)) l)
     also seen a [] = refl
     also seen a (x ∷ l) =
-        ap₂ (λ b r. not b && r) (bit_or seen (2 ^ a) x ∙ ap (λ b. bit seen x || b) (bit_one a x ∙ eqb_sym x a)) (also seen a l)
+        ap₂ (λ b r. not b && r) (bit_of_or seen (2 ^ a) x ∙ ap (λ b. bit seen x || b) (bit_one a x ∙ eqb_sym x a)) (also seen a l)
         ∙ go (bit seen x) (eqb a x) (elem a l) (all (λ x. not (bit seen x)) l)
       where
         go : (s e r t : Bool) → (not (s || e) && (not r && t)) ≡ (not (e || r) && (not s && t))
@@ -54,10 +54,10 @@ unseen_none l = parts 0 l ∙ ap (λ b. b && distinct l) (none l)
 -- the names of `rest` are below 64, and the answer is whether they are unseen
 pub record Seeing (names : List ℕ) (answer : Bool) (rest seen : ℕ) : Type 0 where
   pub fits : rest < 2 ^ 64
-  pub low : Small (chosen rest names) ≡ true
+  pub low : IsSmall (chosen rest names) ≡ true
   pub same : unseen seen (chosen rest names) ≡ answer
 
-pub none_seen : (names : List ℕ) (set : ℕ) → set < 2 ^ 64 → Small (chosen set names) ≡ true → Seeing names (distinct (chosen set names)) set 0
+pub none_seen : (names : List ℕ) (set : ℕ) → set < 2 ^ 64 → IsSmall (chosen set names) ≡ true → Seeing names (distinct (chosen set names)) set 0
 none_seen names set h e = record { fits = h; low = e; same = unseen_none (chosen set names) }
 
 module _ (names : List ℕ) (answer : Bool) (rest seen : ℕ) (s : Seeing names answer rest seen) where
@@ -71,8 +71,8 @@ module _ (names : List ℕ) (answer : Bool) (rest seen : ℕ) (s : Seeing names 
     next : chosen rest names ≡ name ∷ chosen (cleared rest) names
     next = chosen_cleared 64 rest s.fits (omega arith) names long
 
-    lows : (ltb name 64 ≡ true) × (Small (chosen (cleared rest) names) ≡ true)
-    lows = (and-eq-true_iff (ltb name 64) (Small (chosen (cleared rest) names))).0 (sym (ap Small next) ∙ s.low)
+    lows : (ltb name 64 ≡ true) × (IsSmall (chosen (cleared rest) names) ≡ true)
+    lows = (and-eq-true_iff (ltb name 64) (IsSmall (chosen (cleared rest) names))).0 (sym (ap IsSmall next) ∙ s.low)
 
     sames : (not (bit seen name) && unseen (bit_or seen (2 ^ name)) (chosen (cleared rest) names)) ≡ answer
     sames = sym (ap (unseen seen) next) ∙ s.same

@@ -2,10 +2,12 @@
 //
 // A walk takes the lowest member, found by its trailing zeros, until none is left. The laws stand in specs/, over the width.
 // Assumes nothing.
+#![tactic(auto)]
+
 ghost use Rattle.std.specs.Prelude.{◌≡◌, true, length};
 ghost use Rattle.paper.specs.Basics.{distinct};
 ghost use Rattle.paper.specs.Table.{chosen};
-ghost use Rattle.sets.specs.Chosen.{Small};
+ghost use Rattle.sets.specs.Chosen.{IsSmall};
 ghost use Rattle.set_walks.specs.Joined.{joined};
 ghost use Rattle.set_walks.specs.Named.{next_named};
 
@@ -26,7 +28,7 @@ pub fn connect(follow: &mut [u64], from: u64, to: u64)
 
 // No two members have one name. The names of members are below 64, so a word holds those that were seen.
 pub fn one_each(set: u64, names: &[u64]) -> bool
-    requires { (length names.now ≡ 64) × (Small (chosen set names.now) ≡ true) }
+    requires { (length names.now ≡ 64) × (IsSmall (chosen set names.now) ≡ true) }
     ensures { result ≡ distinct (chosen set names.now) }
 {
     let mut rest = set;
@@ -44,7 +46,7 @@ pub fn one_each(set: u64, names: &[u64]) -> bool
 }
 
 // Where a name stands among the members of a set.
-#[derive(Drop)]
+#[derive(Clone, Copy)]
 pub enum Next {
     At(u32),
     Nowhere,

@@ -1,6 +1,8 @@
 // Words as sets of the numbers 0 to 63: k is a member where bit k is set.
 //
 // The laws stand in specs/, over the width. Assumes nothing.
+#![tactic(auto)]
+
 ghost use Rattle.std.specs.Prelude.{◌≡◌, ◌<◌, ◌^◌, ltb};
 ghost use Rattle.std.specs.Int.Bits.{bit_or};
 ghost use Rattle.paper.specs.Sets.{bit};

@@ -2,6 +2,8 @@
 //
 // `shape` and `element_shape` ask nothing of their arguments. One pass goes over the tokens and leaves at the first that may not stand.
 // Assumes nothing.
+#![tactic(auto)]
+
 ghost use Rattle.std.specs.Prelude.{◌≡◌, ◌&&◌, ◌≤◌, length, take};
 ghost use Rattle.paper.specs.Tokens.{toks};
 ghost use Rattle.paper.specs.Shape.{is_element, shallow, shape_of};

@@ -8,7 +8,7 @@ use Rattle.paper.specs.Shape.{is_element}
 use Rattle.paper.specs.Edits.{Request, splice_at, splice_cut, coming, edited, children_of, looked_at}
 use Rattle.shape_laws.specs.Five.{Allowed, five_even}
 use Rattle.shape_laws.specs.EditJudged.{Asked, allowed_by, edited_toks, touched_toks}
-use Rattle.shape_laws.specs.Looked.{over, own, parent_children, touched_children}
+use Rattle.shape_laws.specs.Looked.{over, own, parent_children_lem, touched_children}
 use Rattle.shape_laws.specs.Widths.{Comes, allowed_comes}
 
 module _ (room : ℕ) (q : Request) (doc : List ℕ) (e : is_element (toks doc) ≡ true) (a : Asked room q doc) where
@@ -36,7 +36,7 @@ module _ (room : ℕ) (q : Request) (doc : List ℕ) (e : is_element (toks doc) 
 
   -- those of the parent alone
   pub parent_looked : children_of (parent (take at (toks (edited q doc)))) 0 (toks (edited q doc)) ≡ over (take at d) (piece ++ rest)
-  parent_looked = ap (λ x. children_of (parent (take at x)) 0 x) (edited_toks q doc) ∙ parent_children (take at d) (piece ++ rest) at long
+  parent_looked = ap (λ x. children_of (parent (take at x)) 0 x) (edited_toks q doc) ∙ parent_children_lem (take at d) (piece ++ rest) at long
 
   pub piece_comes : Comes piece
   piece_comes = allowed_comes allowed

@@ -98,8 +98,8 @@ parent_early (t ∷ a) (suc i) h = parent_early a i (omega arith)
 
 -- a stands before the place and r from it on: those of the parent alone, and with those of the piece p
 module _ (a r : List Tok) where
-  pub parent_children : (at : ℕ) → at ≡ length a → children_of (parent (take at (a ++ r))) 0 (a ++ r) ≡ over a r
-  parent_children at e =
+  pub parent_children_lem : (at : ℕ) → at ≡ length a → children_of (parent (take at (a ++ r))) 0 (a ++ r) ≡ over a r
+  parent_children_lem at e =
       rw (e, take-append_seam a r)
       (omega (
         arith,

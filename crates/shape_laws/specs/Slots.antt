@@ -148,15 +148,15 @@ after_values a (End ∷ r) e = (refl, refl)
 after_values a (Text n ∷ r) e = (refl, refl)
 after_values a (Bad ∷ r) e = failing r e
 
-after_name : (a : ℕ) (r : List Tok) → is_body (phases (Named a) r) ≡ true
+after_name_lem : (a : ℕ) (r : List Tok) → is_body (phases (Named a) r) ≡ true
     → (phases (Named a) (take (values r) r) ≡ Valued a) × (later a (drop (values r) r) ≡ true)
-after_name a [] e = clash e refl
-after_name a (Attr n ∷ r) e = failing r e
-after_name a (Value v ∷ r) e = after_values a r e
-after_name a (Start n ∷ r) e = failing r e
-after_name a (End ∷ r) e = failing r e
-after_name a (Text n ∷ r) e = failing r e
-after_name a (Bad ∷ r) e = failing r e
+after_name_lem a [] e = clash e refl
+after_name_lem a (Attr n ∷ r) e = failing r e
+after_name_lem a (Value v ∷ r) e = after_values a r e
+after_name_lem a (Start n ∷ r) e = failing r e
+after_name_lem a (End ∷ r) e = failing r e
+after_name_lem a (Text n ∷ r) e = failing r e
+after_name_lem a (Bad ∷ r) e = failing r e
 
 -- h tokens of r, at the phase q, are nothing or the attribute a
 pub record Held (a : ℕ) (q : Phase) (h : ℕ) (r : List Tok) : Type 0 where
@@ -179,6 +179,6 @@ at_held a q (Attr n ∷ r) s = go (eqb n a) refl
     go : (z : Bool) → eqb n a ≡ z → Held a q (held a (Attr n ∷ r)) (Attr n ∷ r)
     go true f =
         let x : (phases (Named n) (take (values r) r) ≡ Valued a) × (later a (drop (values r) r) ≡ true)
-        = subst (λ z. (phases (Named n) (take (values r) r) ≡ Valued z) × (later z (drop (values r) r) ≡ true)) (eqb-true n a f) (after_name n r (rw next at s.well)) in
+        = subst (λ z. (phases (Named n) (take (values r) r) ≡ Valued z) × (later z (drop (values r) r) ≡ true)) (eqb-true n a f) (after_name_lem n r (rw next at s.well)) in
         rw f (record { calm = s.calm; ends = inr (ap (λ z. phases z (take (values r) r)) next ∙ x.0); rest = x.1 })
     go false f = rw f (record { calm = s.calm; ends = inl refl; rest = lt-ltb a n (omega (arith, eqb-false n a f, ltb-false n a (not-true (ltb n a) s.meets))) })

@@ -4,6 +4,8 @@
 // contract of each fixes the whole outcome: the answer and every place of lent memory. `proofs/Contracts.antt` holds them to the
 // paper's.
 // Assumes nothing.
+#![tactic(auto)]
+
 pub mod version;
 
 ghost use Rattle.paper.specs.Calls.{Reads, Writes, Translates, Checks, Performs, Tells, PerformsList, PerformsGroup, Compares, Imports, Names, Spots};
@@ -16,7 +18,7 @@ use docfile::Count;
 
 // "The check answers number and place"
 #[repr(C)]
-#[derive(Drop)]
+#[derive(Clone, Copy)]
 pub struct Verdict {
     pub number: u32,
     pub place: u32,
@@ -25,7 +27,7 @@ pub struct Verdict {
 // "The answer has number, place, used length, and the change in length, a signed count that is negative when tokens went." Item 10: "A done
 // edit reports the number of children looked at".
 #[repr(C)]
-#[derive(Drop)]
+#[derive(Clone, Copy)]
 pub struct Answer {
     pub number: u32,
     pub place: u32,
@@ -36,7 +38,7 @@ pub struct Answer {
 
 // Item 6: "Document, last answer and number of edits done".
 #[repr(C)]
-#[derive(Drop)]
+#[derive(Clone, Copy)]
 pub struct Listed {
     pub last: Answer,
     pub done: u32,
@@ -44,7 +46,7 @@ pub struct Listed {
 
 // Item 9: number and place, the whole group's used length and change, and "which edit it was, from 1 (else 0)".
 #[repr(C)]
-#[derive(Drop)]
+#[derive(Clone, Copy)]
 pub struct Grouped {
     pub number: u32,
     pub place: u32,
@@ -55,7 +57,7 @@ pub struct Grouped {
 
 // Items 4 and 13: the byte offset in a text of what is at fault.
 #[repr(C)]
-#[derive(Drop)]
+#[derive(Clone, Copy)]
 pub struct Spot {
     pub number: u32,
     pub offset: u64,

@@ -2,6 +2,8 @@
 //
 // Every call holds of any tokens, with shape or without; what it asks is that lengths and places lie in the slice.
 // Assumes nothing.
+#![tactic(auto)]
+
 ghost use Rattle.std.specs.Prelude.{◌≡◌, ◌≤◌, length, take, drop};
 ghost use Rattle.paper.specs.Tokens.{tok_of, toks, values, slot, held};
 ghost use Rattle.slots.specs.Counts.{passes};

@@ -2,6 +2,8 @@
 //
 // What it does not fill keeps its contents.
 // Assumes nothing.
+#![tactic(auto)]
+
 ghost use Rattle.std.specs.Prelude.{◌≡◌, ◌++◌, ◌+◌, ◌-◌, ◌≤◌, length, take, drop};
 ghost use Rattle.paper.specs.Edits.{splice};
 

@@ -71,15 +71,15 @@ texts_stop n i (Attr m ∷ d) = texts_stop n (suc i) d
 texts_stop n i (Value m ∷ d) = texts_stop n (suc i) d
 texts_stop n i (Bad ∷ d) = texts_stop n (suc i) d
 
-pub texts_stop : (d : List Tok) (n i : ℕ) → texts_stop n i d ≡ stop_by (only_texts n) (only_texts n) i zero d
-texts_stop [] n i = refl
-texts_stop (Start m ∷ d) n i = ap At (sym (add-zero i))
-texts_stop (End ∷ d) n i = refl
-texts_stop (Text m ∷ d) zero i = ap At (sym (add-zero i))
-texts_stop (Text m ∷ d) (suc n) i = texts_stop d n (suc i) ∙ ap (stopped (only_texts n (kids zero d))) (omega arith)
-texts_stop (Attr m ∷ d) n i = texts_stop d n (suc i) ∙ ap (stopped (only_texts n (kids zero d))) (omega arith)
-texts_stop (Value m ∷ d) n i = texts_stop d n (suc i) ∙ ap (stopped (only_texts n (kids zero d))) (omega arith)
-texts_stop (Bad ∷ d) n i = texts_stop d n (suc i) ∙ ap (stopped (only_texts n (kids zero d))) (omega arith)
+pub texts_stop_lem : (d : List Tok) (n i : ℕ) → texts_stop n i d ≡ stop_by (only_texts n) (only_texts n) i zero d
+texts_stop_lem [] n i = refl
+texts_stop_lem (Start m ∷ d) n i = ap At (sym (add-zero i))
+texts_stop_lem (End ∷ d) n i = refl
+texts_stop_lem (Text m ∷ d) zero i = ap At (sym (add-zero i))
+texts_stop_lem (Text m ∷ d) (suc n) i = texts_stop_lem d n (suc i) ∙ ap (stopped (only_texts n (kids zero d))) (omega arith)
+texts_stop_lem (Attr m ∷ d) n i = texts_stop_lem d n (suc i) ∙ ap (stopped (only_texts n (kids zero d))) (omega arith)
+texts_stop_lem (Value m ∷ d) n i = texts_stop_lem d n (suc i) ∙ ap (stopped (only_texts n (kids zero d))) (omega arith)
+texts_stop_lem (Bad ∷ d) n i = texts_stop_lem d n (suc i) ∙ ap (stopped (only_texts n (kids zero d))) (omega arith)
 
 -- ---- a model
 
@@ -109,19 +109,19 @@ module _ (b : List ℕ) (end : ℕ) where
       → r ≡ stopped (good_from b s (kids k d)) (i + suc (child_at (stop_after (begun_from b s) (kids k d)) k d))
   passed s k i d e = e ∙ ap (stopped (good_from b s (kids k d))) (omega arith)
 
-  pub model_stop : (d : List Tok) (s : State) (k i : ℕ) → i + length d ≡ end → model_stop b end s k i d ≡ stop_by (good_from b s) (begun_from b s) i k d
-  model_stop [] s k i h = ap (stopped (may_end b s)) (sym h)
-  model_stop (Start n ∷ d) s (suc k) i h = passed s (suc (suc k)) i d (model_stop d s (suc (suc k)) (suc i) (omega arith))
-  model_stop (Start n ∷ d) s zero i h = go (move b s n) refl (λ t. model_stop d t 1 (suc i) (omega arith))
+  pub model_stop_lem : (d : List Tok) (s : State) (k i : ℕ) → i + length d ≡ end → model_stop b end s k i d ≡ stop_by (good_from b s) (begun_from b s) i k d
+  model_stop_lem [] s k i h = ap (stopped (may_end b s)) (sym h)
+  model_stop_lem (Start n ∷ d) s (suc k) i h = passed s (suc (suc k)) i d (model_stop_lem d s (suc (suc k)) (suc i) (omega arith))
+  model_stop_lem (Start n ∷ d) s zero i h = go (move b s n) refl (λ t. model_stop_lem d t 1 (suc i) (omega arith))
     where
       go : (o : Option ℕ) → move b s n ≡ o → ((t : State) → model_stop b end t 1 (suc i) d ≡ stop_by (good_from b t) (begun_from b t) (suc i) 1 d)
           → model_stop b end s zero i (Start n ∷ d) ≡ stop_by (good_from b s) (begun_from b s) i zero (Start n ∷ d)
       go none e next = rw (model_stop, e, run_from, and-false) (ap At (sym (add-zero i)))
       go (some k) e next = rw (model_stop, e, run_from) (passed (at k) 1 i d (next (at k)))
-  model_stop (End ∷ d) s (suc k) i h = passed s k i d (model_stop d s k (suc i) (omega arith))
-  model_stop (End ∷ d) s zero i h = ap (stopped (may_end b s)) (sym (add-zero i))
-  model_stop (Text n ∷ d) s (suc k) i h = passed s (suc k) i d (model_stop d s (suc k) (suc i) (omega arith))
-  model_stop (Text n ∷ d) s zero i h = ap At (sym (add-zero i))
-  model_stop (Attr n ∷ d) s k i h = passed s k i d (model_stop d s k (suc i) (omega arith))
-  model_stop (Value n ∷ d) s k i h = passed s k i d (model_stop d s k (suc i) (omega arith))
-  model_stop (Bad ∷ d) s k i h = passed s k i d (model_stop d s k (suc i) (omega arith))
+  model_stop_lem (End ∷ d) s (suc k) i h = passed s k i d (model_stop_lem d s k (suc i) (omega arith))
+  model_stop_lem (End ∷ d) s zero i h = ap (stopped (may_end b s)) (sym (add-zero i))
+  model_stop_lem (Text n ∷ d) s (suc k) i h = passed s (suc k) i d (model_stop_lem d s (suc k) (suc i) (omega arith))
+  model_stop_lem (Text n ∷ d) s zero i h = ap At (sym (add-zero i))
+  model_stop_lem (Attr n ∷ d) s k i h = passed s k i d (model_stop_lem d s k (suc i) (omega arith))
+  model_stop_lem (Value n ∷ d) s k i h = passed s k i d (model_stop_lem d s k (suc i) (omega arith))
+  model_stop_lem (Bad ∷ d) s k i h = passed s k i d (model_stop_lem d s k (suc i) (omega arith))

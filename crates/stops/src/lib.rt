@@ -1,6 +1,8 @@
 // Where the content of one element stops to be as it must be; and the pass over content of texts alone.
 //
 // It holds of any tokens; what it asks is that the places lie in the slice. Assumes nothing.
+#![tactic(auto)]
+
 ghost use Rattle.std.specs.Prelude.{◌≡◌, ◌-◌, ◌^◌, ◌≤◌, ◌<◌, length, take, drop};
 ghost use Rattle.paper.specs.Tokens.{toks};
 ghost use Rattle.stops.specs.declared.Stop.TheVariants.{Nowhere};
@@ -9,14 +11,14 @@ ghost use Rattle.stops.specs.Stop.{texts_stop, Walked};
 use tokens::{is_end, is_start, is_text};
 
 // Where content stops: nowhere, if it is as it must be; else at the place of a child, of a text or of the element's end.
-#[derive(Drop)]
+#[derive(Clone, Copy)]
 pub enum Stop {
     Nowhere,
     At(usize),
 }
 
 // Where content stops; and, where it stops nowhere, how many children it has.
-#[derive(Drop)]
+#[derive(Clone, Copy)]
 pub struct Walk {
     pub stop: Stop,
     pub children: u32,

@@ -31,5 +31,5 @@ module _ (t : List ℕ) (e : ℕ) where
   pub block_part : (start : ℕ) → e < most_elements → start ≡ 2 + e * block_length → take (start + block_length - start) (drop start t) ≡ block t e
   block_part start h s = let n : start + block_length - start ≡ block_length = omega arith in rw (n, s) (sym (block_is h))
 
-  pub block_length : {b : List ℕ} → b ≡ block t e → length t ≡ table_length → e < most_elements → length b ≡ block_length
-  block_length s long h = ap length (s ∙ block_is h) ∙ length-take-le block_length (drop (2 + e * block_length) t) (simp length-drop (omega arith))
+  pub block_length_lem : {b : List ℕ} → b ≡ block t e → length t ≡ table_length → e < most_elements → length b ≡ block_length
+  block_length_lem s long h = ap length (s ∙ block_is h) ∙ length-take-le block_length (drop (2 + e * block_length) t) (simp length-drop (omega arith))

@@ -8,7 +8,7 @@ use Rattle.paper.specs.Table.{block_length, block, cell, kind_at, count_at, firs
 use Rattle.paper.specs.Rules.{State, start, at, move, run_from}
 use Rattle.paper_laws.specs.Basics.{all_at}
 use Rattle.table_laws.specs.Parts.{ProperModel, block_parts, table_parts}
-use Rattle.table.specs.Block.{block_length}
+use Rattle.table.specs.Block.{block_length_lem}
 use Rattle.table.specs.declared.Run.{Run}
 use Rattle.table.specs.declared.Run.TheVariants.{Start, At, Lost}
 
@@ -84,4 +84,4 @@ ready_block E b long e =
 pub ready_table : (t : List ℕ) (e : ℕ) {b : List ℕ} → proper t ≡ true → e < get_or t 0 0 → b ≡ block t e → Ready b
 ready_table t e {b} p h s =
     let q = table_parts t p in
-    ready_block (get_or t 0 0) b (block_length t e s q.long (omega arith)) (rw s (q.blocks e h))
+    ready_block (get_or t 0 0) b (block_length_lem t e s q.long (omega arith)) (rw s (q.blocks e h))

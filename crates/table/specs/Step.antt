@@ -82,8 +82,8 @@ module _ (b : List ℕ) (g : Ready b) where
     pub step_start : q ≡ Start → r ≡ moved b (cell b first_at) a → Stepped b q a r
     step_start e m = step_by start a (ap state_of e) m
 
-    pub step_at : {k : ℕ} → q ≡ At k → r ≡ moved b (cell b (follow_at + k)) a → Stepped b q a r
-    step_at {k} e m = step_by (at k) a (ap state_of e) m
+    pub step_at_lem : {k : ℕ} → q ≡ At k → r ≡ moved b (cell b (follow_at + k)) a → Stepped b q a r
+    step_at_lem {k} e m = step_by (at k) a (ap state_of e) m
 
   pub end_start : {q : Run} → q ≡ Start → eqb (cell b no_child_at) 1 ≡ ended b (state_of q)
   end_start e = rw e

@@ -2,6 +2,8 @@
 //
 // The readers and the run ask for a table of the right length, a proper one, or a block that can be run. Nothing is written.
 // Assumes nothing.
+#![tactic(auto)]
+
 ghost use Rattle.std.specs.Prelude.{◌≡◌, true, ◌<◌, length, get_or};
 ghost use Rattle.std.proofs.Math.Option.{some};
 ghost use Rattle.paper.specs.Basics.{most_elements};
@@ -35,7 +37,7 @@ pub fn cell(table: &[u64], e: usize, i: usize) -> u64
 
 // A run of a block's model over the children of an element, by where it stands: no child was read yet; occurrence k was read
 // last; or a child had no next occurrence.
-#[derive(Drop)]
+#[derive(Clone, Copy)]
 pub enum Run {
     Start,
     At(u32),

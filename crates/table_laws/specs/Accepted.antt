@@ -45,14 +45,14 @@ module _ (E : ℕ) where
       go : (a b : Bool) → leb (count d) most_names ≡ a → ambiguous d ≡ b → cond a (cond b (refuse 3) (pure (model d))) (refuse 2) s ≡ ok c r → Good x
       go true false p u e =
           let same : d ≡ x = cc in
-          subst Good same (record { fine = record { Small = leb-true (count d) most_names p; unambiguous = u }; below = sym (range_names E d) ∙ rw ((expr_of_iff l d).0 w) h })
+          subst Good same (record { fine = record { IsSmall = leb-true (count d) most_names p; unambiguous = u }; below = sym (range_names E d) ∙ rw ((expr_of_iff l d).0 w) h })
       go true true p u e = never_stop e
       go false b p u e = never_stop e
 
-  content_good : (k : ℕ) (s : List ℕ) {c : Content} {r : List ℕ} → content_as E k s ≡ ok c r → (e : Expr) → c ≡ model e → Good e
-  content_good zero s e x q = let z : ◌≡◌ {A = ℕ} 0 1 = cc in absurd (omega arith)
-  content_good (suc zero) s e x q = let z : ◌≡◌ {A = ℕ} 0 1 = cc in absurd (omega arith)
-  content_good (suc (suc k)) s e x q =
+  content_good_lem : (k : ℕ) (s : List ℕ) {c : Content} {r : List ℕ} → content_as E k s ≡ ok c r → (e : Expr) → c ≡ model e → Good e
+  content_good_lem zero s e x q = let z : ◌≡◌ {A = ℕ} 0 1 = cc in absurd (omega arith)
+  content_good_lem (suc zero) s e x q = let z : ◌≡◌ {A = ℕ} 0 1 = cc in absurd (omega arith)
+  content_good_lem (suc (suc k)) s e x q =
       after (number 1 most_symbols s) _ e λ n t p f.
       after (numbers n 0 (4 + E) t) _ f λ l u g h.
       modelled_good l (numbers_in n t g) (expr_of l) refl u h x q
@@ -102,17 +102,17 @@ pub record GoodAttributes (low : ℕ) (had : Bool) (met : ℕ) (l : List Attribu
   pub fixes : Fixes l
   pub few_fixed : met ≤ most_fixed → met + fixed_in l ≤ most_fixed
 
-attributes_good : (n low : ℕ) (had : Bool) (met : ℕ) (s : List ℕ) {l : List Attribute} {r : List ℕ} → attributes_from n low had met s ≡ ok l r
+attributes_good_lem : (n low : ℕ) (had : Bool) (met : ℕ) (s : List ℕ) {l : List Attribute} {r : List ℕ} → attributes_from n low had met s ≡ ok l r
     → GoodAttributes low had met l
-attributes_good zero low had met s {l} {r} e = let d : l ≡ [] = cc in rw d (record { rising = tt; fixes = tt; few_fixed = λ h. omega arith })
-attributes_good (suc n) low had met s {l} {r} e =
+attributes_good_lem zero low had met s {l} {r} e = let d : l ≡ [] = cc in rw d (record { rising = tt; fixes = tt; few_fixed = λ h. omega arith })
+attributes_good_lem (suc n) low had met s {l} {r} e =
     after (number low (most_attributes - 1) s) _ e λ a t p f.
     after (kind_after had t) _ f λ k u g h.
     after (number 0 (most_status k met) u) _ h λ st v i j.
     after (value_after st v) _ j λ x w y z.
     after (attributes_from n (suc a) (had || eqb k 1) (met + cond (eqb st 2) 1 0) w) _ z λ xs o q m.
     let d : l ≡ record { number = a; kind = k; status = st; value = x } ∷ xs = made m in
-    let rest = attributes_good n (suc a) (had || eqb k 1) (met + cond (eqb st 2) 1 0) w q in
+    let rest = attributes_good_lem n (suc a) (had || eqb k 1) (met + cond (eqb st 2) 1 0) w q in
     let status = (number_in 0 (most_status k met) u i).1 in
     rw d (record {
       rising = ((number_in low (most_attributes - 1) s p).0, kind_good had t g, rest.rising);
@@ -149,8 +149,8 @@ element_good E met s {x} {r} e =
     after (number 0 most_attributes u) _ h λ n v i j.
     after (attributes_from n 0 false met v) _ j λ l w y z.
     let d : x ≡ record { content = c; attributes = l } = made z in
-    let good = attributes_good n 0 false met v y in
-    rw d (record { model_good = λ m q. content_good E k t g m q; rising = good.rising; fixes = good.fixes }, good.few_fixed)
+    let good = attributes_good_lem n 0 false met v y in
+    rw d (record { model_good = λ m q. content_good_lem E k t g m q; rising = good.rising; fixes = good.fixes }, good.few_fixed)
   where
     made : {a : Element} {w : List ℕ} → ok a w ≡ ok x r → x ≡ a
     made e = cc

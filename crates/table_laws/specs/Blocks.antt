@@ -13,11 +13,11 @@ use Rattle.paper.specs.Table.{count_at, no_child_at, names_at, follow_at, cell, 
 use Rattle.paper.specs.Rules.{State, start, at, set_at, may_end, move, run_from, ended, runs, goes_on}
 use Rattle.basic_laws.specs.Bools.{same_test}
 use Rattle.basic_laws.specs.Tests.{and_iff, true_iff}
-use Rattle.paper_laws.specs.Words.{bit_or, bit_one, bit_when, bit_zero}
+use Rattle.paper_laws.specs.Words.{bit_of_or, bit_one, bit_when, bit_zero}
 use Rattle.paper_laws.specs.Basics.{length_pad, length_from, find_same}
 use Rattle.content_laws.specs.Names.{length_names}
 use Rattle.content_laws.specs.Walk.{next, ends, Of, next_of}
-use Rattle.content_laws.specs.Words.{first_word, last_word, follow_word}
+use Rattle.content_laws.specs.Words.{first_word_lem, last_word_lem, follow_word_lem}
 use Rattle.content_laws.specs.Below.{find_cases}
 use Rattle.content_laws.specs.Decide.{decides}
 use Rattle.content_laws.specs.Matching.{matches_iff}
@@ -28,13 +28,13 @@ use Rattle.content_laws.specs.Run.{choices, step, run, answer, accepts, accepts_
 
 pub set_bit : (P : Attribute → Bool) (l : List Attribute) (a : ℕ) → bit (set_of P l) a ≡ some_of (λ y. P y && eqb a y.number) l
 set_bit P [] a = bit_zero a
-set_bit P (y ∷ l) a = rw (bit_or, bit_when, bit_one, set_bit P l a)
+set_bit P (y ∷ l) a = rw (bit_of_or, bit_when, bit_one, set_bit P l a)
 
 -- ---- a model's block
 
 -- a model that the translator takes
 pub record Fine (e : Expr) : Type 0 where
-  pub Small : count e ≤ most_names
+  pub IsSmall : count e ≤ most_names
   pub unambiguous : ambiguous e ≡ false
 
 pub not_ambiguous : {e : Expr} → Fine e → ¬ Ambiguous e
@@ -56,17 +56,17 @@ module _ (l : List Attribute) (e : Expr) (fine : Fine e) where
   b = block_of (record { content = model e; attributes = l })
 
   names_long : length (names e) ≤ most_names
-  names_long = let h = fine.Small in omega (arith, length_names e)
+  names_long = let h = fine.IsSmall in omega (arith, length_names e)
 
-  name_at : (k : ℕ) → k < count e → cell b (names_at + k) ≡ name_at e k
-  name_at k h =
+  name_at_lem : (k : ℕ) → k < count e → cell b (names_at + k) ≡ name_at e k
+  name_at_lem k h =
       let i : k < length (names e) = omega (arith, length_names e) in
       ap (cell b) (ten k)
       ∙ get_or-append (pad most_names (names e)) (pad most_names (map (follow_word 0 e) (from 0 (count e)))) 0 k (omega (arith, length_pad most_names (names e) names_long, names_long))
       ∙ pad_at most_names (names e) k i
 
-  follow_at : (k : ℕ) → k < count e → cell b (follow_at + k) ≡ follow_word 0 e k
-  follow_at k h =
+  follow_at_lem : (k : ℕ) → k < count e → cell b (follow_at + k) ≡ follow_word 0 e k
+  follow_at_lem k h =
       let c : follow_at + k ≡ names_at + (most_names + k) = omega arith in
       let p : most_names + k ≡ length (pad most_names (names e)) + k = ap (λ n. n + k) (sym (length_pad most_names (names e) names_long)) in
       let n : length (map (follow_word 0 e) (from 0 (count e))) ≡ count e = length-map (from 0 (count e)) (follow_word 0 e) ∙ length_from 0 (count e) in
@@ -78,8 +78,8 @@ module _ (l : List Attribute) (e : Expr) (fine : Fine e) where
       ∙ ap (follow_word 0 e) (zero-add k)
 
   next_bit : (s : State) → Of 0 e s → (k : ℕ) → bit (set_at b s) k ≡ next 0 e s k
-  next_bit start i k = first_word 0 e k
-  next_bit (at j) i k = ap (λ w. bit w k) (follow_at j (omega arith)) ∙ follow_word 0 e j k
+  next_bit start i k = first_word_lem 0 e k
+  next_bit (at j) i k = ap (λ w. bit w k) (follow_at_lem j (omega arith)) ∙ follow_word_lem 0 e j k
 
   end_bit : (s : State) → may_end b s ≡ ends 0 e s
   end_bit start = flag (nullable e)
@@ -87,11 +87,11 @@ module _ (l : List Attribute) (e : Expr) (fine : Fine e) where
       flag : (c : Bool) → eqb (cond c 1 0) 1 ≡ c
       flag true = refl
       flag false = refl
-  end_bit (at k) = last_word 0 e k
+  end_bit (at k) = last_word_lem 0 e k
 
   move_step : (s : State) → Of 0 e s → (a : ℕ) → move b s a ≡ step e s a
   move_step s i a = find_same (λ k. bit (set_at b s) k && eqb (cell b (names_at + k)) a) (choices e s a) (count e)
-      (λ k h. ap₂ (λ c n. c && eqb n a) (next_bit s i k) (name_at k h))
+      (λ k h. ap₂ (λ c n. c && eqb n a) (next_bit s i k) (name_at_lem k h))
 
   run_same : (s : State) → Of 0 e s → (w : List ℕ) → run_from b s w ≡ run e s w
   run_same s i [] = refl

@@ -65,9 +65,9 @@ no_id : (l : List Attribute) (low : ℕ) → Rising low true l → (k : ℕ) →
 no_id [] low r k = refl
 no_id (y ∷ l) low (a, b, r) k = ap (λ c. (c && eqb k y.number) || At l (of_kind 1) k) b ∙ no_id l (suc y.number) r k
 
-one_id : (l : List Attribute) (low : ℕ) → Rising low false l → (j k : ℕ) → j < k → At l (of_kind 1) k ≡ true → At l (of_kind 1) j ≡ false
-one_id [] low r j k h e = refl
-one_id (y ∷ l) low (a, b, r) j k h e = go (eqb y.kind 1) refl (one_id l (suc y.number)) e r
+one_id_lem : (l : List Attribute) (low : ℕ) → Rising low false l → (j k : ℕ) → j < k → At l (of_kind 1) k ≡ true → At l (of_kind 1) j ≡ false
+one_id_lem [] low r j k h e = refl
+one_id_lem (y ∷ l) low (a, b, r) j k h e = go (eqb y.kind 1) refl (one_id_lem l (suc y.number)) e r
   where
     go : (p : Bool) → eqb y.kind 1 ≡ p
         → (Rising (suc y.number) false l → (j k : ℕ) → j < k → At l (of_kind 1) k ≡ true → At l (of_kind 1) j ≡ false)
@@ -90,7 +90,7 @@ set_single l r = (every_iff (λ k. not (bit w k) || every (λ j. not (bit w j)) 
 
     go : (k : ℕ) (b : Bool) → At l (of_kind 1) k ≡ b → not (bit w k) || every (λ j. not (bit w j)) k ≡ true
     go k false e = rw (set_bit (of_kind 1) l k, e)
-    go k true e = rw (set_bit (of_kind 1) l k, e) ((every_iff (λ j. not (bit w j)) k).1 (λ j h. ap not (set_bit (of_kind 1) l j ∙ one_id l 0 r j k h e)))
+    go k true e = rw (set_bit (of_kind 1) l k, e) ((every_iff (λ j. not (bit w j)) k).1 (λ j h. ap not (set_bit (of_kind 1) l j ∙ one_id_lem l 0 r j k h e)))
 
 -- what a rising list has of the number of one of its own is that one
 least : (u v : List Attribute) (y : Attribute) (low : ℕ) (had : Bool) → Rising low had (u ++ y ∷ v) → low ≤ y.number

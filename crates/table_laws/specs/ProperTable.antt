@@ -20,7 +20,7 @@ use Rattle.paper.specs.Sets.{nullable, first, follow, bit, first_word, last_word
 use Rattle.basic_laws.specs.Bools.{both}
 use Rattle.paper_laws.specs.Basics.{length_pad, length_from, every_iff}
 use Rattle.paper_laws.specs.Chosen.{Free, distinct_iff}
-use Rattle.content_laws.specs.Words.{first_word, follow_word, first_fits, last_fits, follow_fits}
+use Rattle.content_laws.specs.Words.{first_word_lem, follow_word_lem, first_fits, last_fits, follow_fits}
 use Rattle.content_laws.specs.Ambiguity.{Clash, ambiguous_iff}
 use Rattle.table_laws.specs.Blocks.{Fine, not_ambiguous, ten}
 use Rattle.table_laws.specs.SameRules.{FineAll, none_left as no_more, one_more as and-more, L, length_L, length_all, blocks_part, fixed_part_lem, block_in, set_same}
@@ -36,10 +36,10 @@ module _ (e : Expr) (fine : Fine e) where
       not_ambiguous fine (c (x, y, subst T (sym (sym (same x) ∙ p)) tt, subst T (sym (sym (same y) ∙ q)) tt, record { differ = λ z. omega arith; same = s }))
 
   first_free : Free (first_word 0 e) (names e)
-  first_free = twins (first 0 e) (first_word 0 e) (first_word 0 e) (λ c. (ambiguous_iff e).1 (inl c))
+  first_free = twins (first 0 e) (first_word 0 e) (first_word_lem 0 e) (λ c. (ambiguous_iff e).1 (inl c))
 
   follow_free : (k : ℕ) → Free (follow_word 0 e k) (names e)
-  follow_free k = twins (follow 0 e k) (follow_word 0 e k) (follow_word 0 e k) (λ c. (ambiguous_iff e).1 (inr (k, c)))
+  follow_free k = twins (follow 0 e k) (follow_word 0 e k) (follow_word_lem 0 e k) (λ c. (ambiguous_iff e).1 (inr (k, c)))
 
 zeros_replicate : (n : ℕ) → zeros (replicate n 0) ≡ true
 zeros_replicate zero = refl
@@ -66,11 +66,11 @@ module _ (E : ℕ) (l : List Attribute) (e : Expr) (g : Good E e) where
   abbrev Z : List ℕ
   Z = replicate (most_names - length (names e)) 0
 
-  Small : n ≤ most_names
-  Small = g.fine.Small
+  IsSmall : n ≤ most_names
+  IsSmall = g.fine.IsSmall
 
   long_names : length (names e) ≤ most_names
-  long_names = omega (arith, length_names e, Small)
+  long_names = omega (arith, length_names e, IsSmall)
 
   long_M : length M ≡ n
   long_M = length-map (from 0 n) (follow_word 0 e) ∙ length_from 0 n
@@ -104,7 +104,7 @@ module _ (E : ℕ) (l : List Attribute) (e : Expr) (g : Good E e) where
   model_proper =
       let inside : 0 + n ≤ n = omega arith in
       both (both (both (both (both (both (both
-      (both (le-leb 1 n (count_some e)) (le-leb n most_names Small))
+      (both (le-leb 1 n (count_some e)) (le-leb n most_names IsSmall))
       (flag_low (nullable e)))
       (next_proper (first_word 0 e) (first_fits 0 e n inside) (first_free e g.fine)))
       (lt-ltb (last_word 0 e) (2 ^ n) (last_fits 0 e n inside)))

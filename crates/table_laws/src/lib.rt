@@ -1,1 +1,2 @@
 // Laws of schemas and their tables, in specs/: see specs/Translated.antt. There is no code here.
+#![tactic(auto)]

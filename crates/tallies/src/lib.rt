@@ -2,6 +2,8 @@
 //
 // The counts are lent, one for each of 48 names. "Names of E and above are counted nowhere."
 // Assumes nothing.
+#![tactic(auto)]
+
 ghost use Rattle.std.specs.Prelude.{◌≡◌, ◌≤◌, length, replicate};
 ghost use Rattle.paper.specs.Basics.{most_tokens, most_elements};
 ghost use Rattle.paper.specs.Tokens.{toks, tok_of};

@@ -3,6 +3,8 @@
 // "A token is number × 8 + sort, the number at most 65,535." A test of a sort is one comparison, of the bits that hold the sort and those
 // past the largest number. A word that is no token is of no sort. specs/Theorems.antt says what each test tells of the token.
 // Assumes nothing.
+#![tactic(auto)]
+
 ghost use Rattle.std.specs.Prelude.{◌≡◌, ◌/◌};
 ghost use Rattle.paper.specs.Tokens.{tok_of, starts};
 ghost use Rattle.tokens.specs.Sorts.{of_sort, ends, text_tok, attr_tok, value_tok};

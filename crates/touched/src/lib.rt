@@ -2,6 +2,8 @@
 //
 // The parent is found by looking back, and its children, judged and counted in one pass, one after another; the piece is judged by itself.
 // So the cost is that of the parent's tokens and of the piece, and not of the document. The table is a proper one, and nothing is written. Assumes nothing.
+#![tactic(auto)]
+
 ghost use Rattle.std.specs.Prelude.{◌≡◌, true, ◌+◌, ◌≤◌, length, take, drop};
 ghost use Rattle.paper.specs.Basics.{most_tokens};
 ghost use Rattle.paper.specs.Tokens.{toks};
@@ -18,7 +20,7 @@ use piece_faults::piece_fault;
 use places::parent_of;
 
 // What the judgement of an edited document gives: its first fault; where there is none, the number of children looked at.
-#[derive(Drop)]
+#[derive(Clone, Copy)]
 pub struct Finding {
     pub number: u32,
     pub place: u32,

@@ -1,5 +1,7 @@
 // The names that led to an entry of a search: each entry has the one from which it was met, always an earlier one, and the name that led
 // on. Entry 0 is the start, and nothing led to it. Assumes nothing.
+#![tactic(auto)]
+
 ghost use Rattle.std.specs.Prelude.{length};
 ghost use Rattle.trail.specs.Write.{Traced, Counted, Spelled, Wrote};
 

@@ -2,6 +2,8 @@
 //
 // `worked` goes along a list of edits, up to the first that is refused. Each edit is tested for form, place and size, and in form made in the
 // buffer; nothing is judged here. Assumes nothing.
+#![tactic(auto)]
+
 ghost use Rattle.std.specs.Prelude.{◌≡◌, true, ◌≤◌, length};
 ghost use Rattle.paper.specs.Basics.{most_tokens};
 ghost use Rattle.paper.specs.Shape.{shape_of};
@@ -13,7 +15,7 @@ use form::form_of;
 use written::write;
 
 // What one edit came to: its number for a fault of form, or 0; and the document's length then.
-#[derive(Drop)]
+#[derive(Clone, Copy)]
 pub struct Tested {
     pub number: u32,
     pub used: usize,
@@ -50,7 +52,7 @@ fn turn(
 
 // What the edits of a list came to: "the first refused edit's number and which edit it was, from 1 (else 0)"; and the length of the last
 // document reached.
-#[derive(Drop)]
+#[derive(Clone, Copy)]
 pub struct Worked {
     pub number: u32,
     pub which: u32,

@@ -1,6 +1,8 @@
 // What a done edit writes into its buffer: the new tokens, and 0 up to the old length; and the change in length.
 //
 // Assumes nothing.
+#![tactic(auto)]
+
 ghost use Rattle.std.specs.Prelude.{◌≡◌, ◌≤◌, length, take, pos, ◌-ℤ◌};
 ghost use Rattle.paper.specs.Basics.{most_tokens};
 ghost use Rattle.paper.specs.Edits.{written};

@@ -1,6 +1,8 @@
 // Words that must be 0: they are joined into one word, so that there is no branch for each of them.
 //
 // Nothing is asked of the words, and nothing is written. Assumes nothing.
+#![tactic(auto)]
+
 ghost use Rattle.std.specs.Prelude.{◌≡◌};
 ghost use Rattle.paper.specs.Table.{zeros};
 ghost use Rattle.zeros.specs.Union.{union};

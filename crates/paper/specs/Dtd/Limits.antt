@@ -57,6 +57,6 @@ pub record Within (known : Name → Bool) (ds : List Declaration) : Type 0 where
   pub few_elements : length (element_names ds) ≤ most_elements
   -- none of an element's attributes twice, at most one ID among them, and at most 64 names of attributes in all
   pub attributes_different : (e : Name) → different (map (λ d. d.name) (defined_for e ds)) ≡ true
-  pub one_id : (e : Name) → one_id (defined_for e ds) ≡ true
+  pub one_id_lem : (e : Name) → one_id (defined_for e ds) ≡ true
   pub few_attributes : length (attribute_names ds) ≤ most_attributes
   pub each_good : all (declaration_good known) ds ≡ true

@@ -1,0 +1,17 @@
+-- `attributes::listed` meets its contract. The loop's invariant is `Passing`; the measure is how many tokens are left. Assumes nothing.
+use Prim.Native.Nat.{◌-◌}
+use mathlib.Core.Logic.{⊎_elim}
+use Rattle.attributes.specs.Attributes.{passing_begin, passing_attribute, passing_value, passing_other, passing_out}
+use Rattle.attributes.proofs.listed.Goals as goal
+
+pub loop-i-init : goal.loop-i-init
+loop-i-init c = search passing_begin
+
+pub loop-i-preserved-then-is_attribute : goal.loop-i-preserved-then-is_attribute
+loop-i-preserved-then-is_attribute c = search passing_attribute
+
+pub loop-i-preserved : goal.loop-i-preserved
+loop-i-preserved c = search passing_value
+
+pub returns : goal.returns
+returns c = ⊎_elim (λ w. search passing_out) (λ w. search passing_other) c.loop-i-test.branch

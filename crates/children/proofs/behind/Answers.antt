@@ -1,0 +1,24 @@
+-- `children::behind` meets its contract. Assumes nothing.
+use Prim.Native.Nat.{◌+◌}
+use native.Mathlib.Omega.{arith}
+use borrow.Author.Rules.{rules}
+use Rattle.children.specs.Closed.{behind_within, behind_end, behind_last}
+use Rattle.children.proofs.behind.Goals as goal
+
+pub overflow_add-result : goal.overflow_add-result
+overflow_add-result c =
+    let h = behind_within c.args.doc.now c.args.used c.args.i c.requires.used_in_bounds.0 c.requires.used_in_bounds.1 in
+    let e = c.end_of.ensures in
+    search (rules, e, h)
+
+pub overflow_cast-result : goal.overflow_cast-result
+overflow_cast-result c = omega (arith, c.shared_slice_known-then-j-used-1.given (c.args.i + 1))
+
+pub overflow_add-result-then-j-used : goal.overflow_add-result-then-j-used
+overflow_add-result-then-j-used c = omega (arith, c.shared_slice_known-then-j-used-1.given (c.args.i + 1))
+
+pub returns-then-j-used : goal.returns-then-j-used
+returns-then-j-used c = search behind_end
+
+pub returns : goal.returns
+returns c = search behind_last

@@ -1,0 +1,38 @@
+-- `dtd::import_spot` meets its contract. Assumes nothing.
+use mathlib.Core.Path.{refl}
+use Rattle.dtd.specs.Outcomes.{not_taken, told}
+use Rattle.dtd.proofs.import_spot.Goals as goal
+
+pub slice_bounds-declared_at-end : goal.slice_bounds-declared_at-end
+slice_bounds-declared_at-end c = refl
+
+pub slice_bounds-declared_at-end-2 : goal.slice_bounds-declared_at-end-2
+slice_bounds-declared_at-end-2 c = refl
+
+pub slice_bounds-declared_at-end-3 : goal.slice_bounds-declared_at-end-3
+slice_bounds-declared_at-end-3 c = refl
+
+pub slice_bounds-declared_at-end-4 : goal.slice_bounds-declared_at-end-4
+slice_bounds-declared_at-end-4 c = refl
+
+pub slice_bounds-declared_at-end-5 : goal.slice_bounds-declared_at-end-5
+slice_bounds-declared_at-end-5 c = refl
+
+pub slice_bounds-declared_at-end-6 : goal.slice_bounds-declared_at-end-6
+slice_bounds-declared_at-end-6 c = refl
+
+pub declared_at-d-requires : goal.declared_at-d-requires
+declared_at-d-requires c =
+    record { elements_long = refl; contents_long = refl; ends_long = refl; attributes_long = refl; heads_long = refl; rows_long = refl }
+
+pub returns-then-d-ne0 : goal.returns-then-d-ne0
+returns-then-d-ne0 c =
+    let d = c.declared_at-d in
+    let a = c.args in
+    not_taken a.text.now d.new.1.0 d.new.1.1.0 d.new.1.1.1.0 d.new.1.1.1.1.0 d.new.1.1.1.1.1.0 d.new.1.1.1.1.1.1.0 d.result d.ensures c.if-d-ne0.true
+
+pub returns : goal.returns
+returns c =
+    let d = c.declared_at-d in
+    let a = c.args in
+    told a.text.now d.new.1.0 d.new.1.1.0 d.new.1.1.1.0 d.new.1.1.1.1.0 d.new.1.1.1.1.1.0 d.new.1.1.1.1.1.1.0 d.result d.ensures (record { elements_long = d.auto.1.0; contents_long = d.auto.1.1.0; ends_long = d.auto.1.1.1.0; attributes_long = d.auto.1.1.1.1.0; heads_long = d.auto.1.1.1.1.1.0; rows_long = d.auto.1.1.1.1.1.1.0 }) c.if-d-ne0.false

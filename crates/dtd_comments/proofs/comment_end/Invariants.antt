@@ -1,0 +1,11 @@
+-- `dtd_comments::comment_end` meets its contract: the comment goes on at i. Assumes nothing.
+use Prim.Native.Nat.{◌-◌}
+use lib.ListN.{length}
+use Rattle.dtd_comments.specs.Comments.{Going}
+use Rattle.dtd_comments.proofs.comment_end.Given as goal
+
+abbrev pub invariant-loop-j : goal.invariant-loop-j
+invariant-loop-j l = Going l.text l.at l.i
+
+abbrev pub decreases-loop-j : goal.decreases-loop-j
+decreases-loop-j l = length l.text - l.i

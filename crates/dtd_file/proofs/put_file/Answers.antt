@@ -1,0 +1,15 @@
+-- `dtd_file::put_file` meets its contract: the count of elements, the root, and the elements. Assumes nothing.
+use borrow.Author.Rules.{rules}
+use mathlib.Core.Path.{◌∙◌}
+use lib.ListN.{length-set}
+use Rattle.dtd_file.specs.Whole.{files_in, file_put}
+use Rattle.dtd_file.proofs.put_file.Goals as goal
+
+pub put_elements-requires : goal.put_elements-requires
+put_elements-requires c = search (rules, files_in)
+
+pub shape_of-out : goal.shape_of-out
+shape_of-out c = c.put_elements.auto.1.1.1.1.1.1.0 ∙ simp length-set
+
+pub returns : goal.returns
+returns c = search (rules, file_put)

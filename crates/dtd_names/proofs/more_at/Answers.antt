@@ -1,0 +1,11 @@
+-- `dtd_names::more_at` meets its contract. Assumes nothing.
+use Rattle.paper.specs.Dtd.Letters.{is_more}
+use Rattle.dtd_words.specs.Places.{begins_none, begins_at}
+use borrow.Author.Rules.{rules}
+use Rattle.dtd_names.proofs.more_at.Goals as goal
+
+pub returns-then-text-at : goal.returns-then-text-at
+returns-then-text-at c = search (rules, begins_none is_more)
+
+pub returns : goal.returns
+returns c = search (rules, begins_at is_more)

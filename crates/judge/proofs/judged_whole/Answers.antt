@@ -1,0 +1,12 @@
+-- `judge::judged_whole` meets its contract. Assumes nothing.
+use native.Mathlib.Omega.{arith}
+use Rattle.children.specs.Closed.{closed}
+use Rattle.judge.specs.Check.{whole_judged}
+use Rattle.judge.proofs.judged_whole.Goals as goal
+
+pub first_fault-elements-requires : goal.first_fault-elements-requires
+first_fault-elements-requires c =
+    (c.requires.0, (closed c.args.doc.now c.args.used _ c.requires.1 c.closes.ensures, (c.requires.1, c.requires.2, omega arith)))
+
+pub returns : goal.returns
+returns c = search whole_judged

@@ -1,0 +1,9 @@
+-- `keys::key_fault` meets its contract. Assumes nothing.
+use Rattle.keys.specs.Answer.{key_first, key_none}
+use Rattle.keys.proofs.key_fault.Goals as goal
+
+pub returns-then-first-used : goal.returns-then-first-used
+returns-then-first-used c = search key_none
+
+pub returns : goal.returns
+returns c = search key_first

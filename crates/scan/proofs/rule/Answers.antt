@@ -1,0 +1,4 @@
+use Rattle.scan.proofs.rule.Goals as goal
+
+pub returns : goal.returns
+returns c = rw c.requires.0
