@@ -22,14 +22,5 @@ returns-then-n-ne0 c = search (rules, no_mention)
 pub element_at-requires : goal.element_at-requires
 element_at-requires c = let asked = c.requires in (search (rules, came_inside), asked.1, asked.2, asked.4)
 
-pub shape_of-attributes : goal.shape_of-attributes
-shape_of-attributes c = c.element_at.auto.1.1.1.0
-
-pub shape_of-heads : goal.shape_of-heads
-shape_of-heads c = c.element_at.auto.1.1.1.1.1.1.0
-
-pub shape_of-rows : goal.shape_of-rows
-shape_of-rows c = c.element_at.auto.1.1.1.1.1.1.1.1.0
-
 pub returns : goal.returns
 returns c = search (rules, all_listed)

@@ -7,15 +7,6 @@ use Rattle.dtd_attributes.proofs.element_at.Goals as goal
 pub keep_row-m-requires : goal.keep_row-m-requires
 keep_row-m-requires c = let heads = c.requires.3 in (heads.long, heads.wide)
 
-pub shape_of-attributes : goal.shape_of-attributes
-shape_of-attributes c = c.definitions_at-x.auto.1.1.1.0
-
-pub shape_of-heads : goal.shape_of-heads
-shape_of-heads c = c.keep_row-m.auto.0
-
-pub shape_of-rows : goal.shape_of-rows
-shape_of-rows c = c.keep_row-m.auto.1.1.0
-
 pub returns : goal.returns
 returns c =
     let keep = c.keep_row-m in
