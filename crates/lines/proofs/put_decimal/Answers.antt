@@ -9,9 +9,9 @@ use Rattle.lines.proofs.put_decimal.Goals as goal
 pub put_text-requires : goal.put_text-requires
 put_text-requires c =
     let d = c.decimal-k in
-    omega (arith, ap length (d.ensures.1.1 ∙ shown_is _ _ (omega arith) d.ensures.1.0))
+    omega (arith, ap length (d.ensures.digits ∙ shown_is _ _ (omega arith) d.ensures.len))
 
 pub returns : goal.returns
 returns c =
     let d = c.decimal-k in
-    put_as c.put_text.ensures (d.ensures.1.1 ∙ shown_is _ _ (omega arith) d.ensures.1.0)
+    put_as c.put_text.ensures (d.ensures.digits ∙ shown_is _ _ (omega arith) d.ensures.len)

@@ -23,4 +23,7 @@ returns c =
     let g = c.put_field-b.ensures in
     let h = c.put_field-c.ensures in
     let i = c.put_field.ensures in
-    (line_put _ _ _ _ f g h i, line_room_lem _ _ _ _ _ _ c.requires.1 c.requires.0 (omega arith) f (omega arith) g (omega arith) h i)
+    record {
+      put = line_put _ _ _ _ f g h i;
+      upper_bound = line_room_lem _ _ _ _ _ _ c.requires.1 c.requires.0 (omega arith) f (omega arith) g (omega arith) h i;
+    }
