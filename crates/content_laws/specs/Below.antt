@@ -8,6 +8,7 @@ use Rattle.paper.specs.Basics.{any, find}
 use Rattle.basic_laws.specs.Tests.{or_iff, tests}
 
 any_to : (S : Set) (n : ℕ) → T (any S n) → (k : ℕ) × (k < n) × T (S k)
+any_to S zero t = elim t [ ]
 any_to S (suc n) t = elim (simp or_iff at t) [
   | inl s ↦ (n, omega arith, s)
   | inr s ↦ let (k, i, r) = any_to S n s in (k, omega arith, r)

@@ -87,6 +87,7 @@ pub accepts_iff : (e : Expr) → ¬ Ambiguous e → (w : List ℕ) → T (accept
 accepts_iff e clear w = (to (run e start w) refl, of)
   where
     to : (o : Option State) → run e start w ≡ o → T (answer e o) → Matches e w
+    to none c h = elim h [ ]
     to (some t) c h =
         let (p, reads, there, named) = run_leads e start w t c in
         rw named at (matches_of e p ((glushkov 0 e p).1 ((walk_iff 0 e start p).1 (reads, rw there h))))
@@ -110,6 +111,7 @@ pub prefix_iff : (e : Expr) → ¬ Ambiguous e → (u : List ℕ) → IsSome (ru
 prefix_iff e clear u = (to (run e start u) refl, of)
   where
     to : (o : Option State) → run e start u ≡ o → IsSome o → (v : List ℕ) × Matches e (u ++ v)
+    to none c h = elim h [ ]
     to (some t) c h =
         let (p, reads, there, named) = run_leads e start u t c in
         let (v, m) = (reads_iff 0 e p).0 reads in
