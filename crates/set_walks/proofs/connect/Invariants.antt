@@ -1,4 +1,3 @@
-use Rattle.sets.specs.Lowest.{turn}
 use Rattle.set_walks.specs.Joined.{joined, Joining}
 use Rattle.set_walks.proofs.connect.Given as goal
 
@@ -8,5 +7,3 @@ invariant-loop-rest l = Joining (joined l.from l.to l.initial.follow) l.to l.fol
 abbrev pub decreases-loop-rest : goal.decreases-loop-rest
 decreases-loop-rest l =
     l.rest
-
--- one turn of the walk

@@ -1,4 +1,3 @@
-use Rattle.sets.specs.Lowest.{turn}
 use Rattle.set_walks.specs.Named.{next_named, Seeking}
 use Rattle.set_walks.proofs.next_named.Given as goal
 
@@ -8,5 +7,3 @@ invariant-loop-rest l = Seeking l.names l.name (next_named l.set l.names l.name)
 abbrev pub decreases-loop-rest : goal.decreases-loop-rest
 decreases-loop-rest l =
     l.rest
-
--- one turn of the walk

@@ -1,6 +1,5 @@
 use Rattle.paper.specs.Basics.{distinct}
 use Rattle.paper.specs.Table.{chosen}
-use Rattle.sets.specs.Lowest.{turn}
 use Rattle.set_walks.specs.Seen.{Seeing}
 use Rattle.set_walks.proofs.one_each.Given as goal
 
@@ -10,5 +9,3 @@ invariant-loop-rest l = Seeing l.names (distinct (chosen l.set l.names)) l.rest 
 abbrev pub decreases-loop-rest : goal.decreases-loop-rest
 decreases-loop-rest l =
     l.rest
-
--- one turn of the walk
