@@ -20,7 +20,7 @@ use Rattle.paper_laws.specs.Words.{bit_when, bit_zero, bit_of_or, bit_of_and, bi
 use Rattle.paper_laws.specs.Chosen.{Free, distinct_iff}
 use Rattle.paper_laws.specs.Basics.{every_iff}
 use Rattle.basic_laws.specs.Bools.{clash, same_test, both}
-use Rattle.sets.specs.Chosen.{IsSmall, chosen_none, chosen_take, chosen_small}
+use Rattle.sets.specs.Chosen.{small, chosen_none, chosen_take, chosen_small}
 use Rattle.ambiguity.specs.Unambiguous.{is_unambiguous, Bounded, Low, Twice, Places}
 
 -- ---- tests
@@ -190,7 +190,7 @@ module _ {n : ℕ} {names follow : List ℕ} (b : Bounded n names follow) where
       each w = sym (walk_same room none w) ∙ rw (and_zero_r w) (ap distinct (chosen_none names))
 
   module _ {twice r : ℕ} (t : Twice n names twice) (p : Places twice n names r) where
-    pub walk_small : (w : ℕ) → IsSmall (chosen (bit_and w r) names) ≡ true
+    pub walk_small : (w : ℕ) → small (chosen (bit_and w r) names) ≡ true
     walk_small w = chosen_small n 64 (bit_and w r) names (walk_fits room (sharing t p) w) (le_refl 64) b.low
 
     walked : (w : ℕ) {d : Bool} → d ≡ distinct (chosen (bit_and w r) names) → P w ≡ d

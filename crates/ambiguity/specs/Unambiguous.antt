@@ -14,7 +14,7 @@ use Rattle.basic_laws.specs.Tests.{and_iff, tests}
 use Rattle.content_laws.specs.Names.{length_names}
 use Rattle.content_laws.specs.Below.{any_iff}
 use Rattle.content_laws.specs.Words.{first_word_lem, follow_word_lem}
-use Rattle.sets.specs.Chosen.{IsSmall}
+use Rattle.sets.specs.Chosen.{small}
 
 -- neither the set of firsts nor any follow set holds two occurrences of one name
 abbrev pub is_unambiguous : ℕ → List ℕ → List ℕ → Bool
@@ -25,7 +25,7 @@ pub record Bounded (count : ℕ) (names follow : List ℕ) : Type 0 where
   pub few : count ≤ most_names
   pub names_long : length names ≡ most_names
   pub follow_long : length follow ≡ most_names
-  pub low : IsSmall (take count names) ≡ true
+  pub low : small (take count names) ≡ true
 
 -- ---- names that stand twice
 
@@ -33,7 +33,7 @@ pub record Bounded (count : ℕ) (names follow : List ℕ) : Type 0 where
 pub record Low (n : ℕ) (names : List ℕ) : Type 0 where
   pub few : n ≤ most_names
   pub long : n ≤ length names
-  pub low : IsSmall (take n names) ≡ true
+  pub low : small (take n names) ≡ true
 
 -- r holds each name that stands at two of the first n places
 abbrev pub Twice : ℕ → List ℕ → ℕ → Type 0

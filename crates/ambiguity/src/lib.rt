@@ -7,7 +7,7 @@
 ghost use Rattle.std.specs.Prelude.{◌≡◌, true, length, take};
 ghost use Rattle.paper.specs.Basics.{most_names, distinct};
 ghost use Rattle.paper.specs.Table.{chosen};
-ghost use Rattle.sets.specs.Chosen.{IsSmall};
+ghost use Rattle.sets.specs.Chosen.{small};
 ghost use Rattle.ambiguity.specs.Unambiguous.{is_unambiguous, Bounded, Low, Twice, Places};
 
 use set_walks::one_each;
@@ -46,7 +46,7 @@ fn places_of(set: u64, n: usize, names: &[u64]) -> u64
 
 // No two members have one name. No two of `known` have, so a part of it needs no walk.
 fn once_after(known: u64, set: u64, names: &[u64]) -> bool
-    requires { (length names.now ≡ most_names) × (IsSmall (chosen set names.now) ≡ true) × (distinct (chosen known names.now) ≡ true) }
+    requires { (length names.now ≡ most_names) × (small (chosen set names.now) ≡ true) × (distinct (chosen known names.now) ≡ true) }
     ensures { result ≡ distinct (chosen set names.now) }
 {
     if is_within(set, known) {

@@ -30,18 +30,18 @@ unfolding check checking
 check_answers_lem table buffer used o e = by_table (proper table) e
   where
     at : (n : ℕ) → T (elem n check_answers) → T (between 7 12 n) → n ≢ 7 → Answers check_answers n o.1
-    at n t b d = record { OneOf = t; no_place = λ c. absurd (c b) }
+    at n t b d = record { one_of = t; no_place = λ c. absurd (c b) }
 
     by_judge : Judged o → Answers check_answers o.0 o.1
-    by_judge (inl z) = rw z (record { OneOf = tt; no_place = λ c. refl })
+    by_judge (inl z) = rw z (record { one_of = tt; no_place = λ c. refl })
     by_judge (inr t) =
         each (λ k. k ≢ 7 → Answers check_answers k o.1) placed (λ n. absurd (n refl), (at 8 tt tt, (at 9 tt tt, (at 10 tt tt, (at 11 tt tt, (at 12 tt tt, tt)))))) o.0 t
         (check_never_7 table buffer used o e)
 
     by_shape : (b : Bool) → o ≡ cond b (judge (of_table table) whole (toks (take used buffer))) (4, 0) → Answers check_answers o.0 o.1
     by_shape true f = by_judge (rw f (judge_judged (of_table table) whole (toks (take used buffer))))
-    by_shape false f = rw f (record { OneOf = tt; no_place = λ c. refl })
+    by_shape false f = rw f (record { one_of = tt; no_place = λ c. refl })
 
     by_table : (b : Bool) → o ≡ cond b (cond (shape_of buffer used) (judge (of_table table) whole (toks (take used buffer))) (4, 0)) (13, 0) → Answers check_answers o.0 o.1
     by_table true f = by_shape (shape_of buffer used) f
-    by_table false f = rw f (record { OneOf = tt; no_place = λ c. refl })
+    by_table false f = rw f (record { one_of = tt; no_place = λ c. refl })

@@ -58,8 +58,8 @@ answered_rejects zero a m t (inr j) = go (eqb a.0 0)
     go false = each (λ n. Answers edit_answers n a.1) placed (at 7 tt tt, (at 8 tt tt, (at 9 tt tt, (at 10 tt tt, (at 11 tt tt, (at 12 tt tt, tt)))))) a.0 j
       where
         at : (n : ℕ) → T (elem n edit_answers) → T (between 7 12 n) → Answers edit_answers n a.1
-        at n t b = record { OneOf = t; no_place = λ c. absurd (c b) }
-answered_rejects (suc n) a m t j = record { OneOf = each (λ k. T (elem k edit_answers)) (0 ∷ 4 ∷ 5 ∷ 6 ∷ 15 ∷ []) (tt, (tt, (tt, (tt, (tt, tt))))) (suc n) t; no_place = λ c. refl }
+        at n t b = record { one_of = t; no_place = λ c. absurd (c b) }
+answered_rejects (suc n) a m t j = record { one_of = each (λ k. T (elem k edit_answers)) (0 ∷ 4 ∷ 5 ∷ 6 ∷ 15 ∷ []) (tt, (tt, (tt, (tt, (tt, tt))))) (suc n) t; no_place = λ c. refl }
 
 pub edit_answers_lem : (table buffer : List ℕ) (used : ℕ) (q : Request) (second : List ℕ) (counts : List ℤ) (o : Outcome)
     → Performs table buffer used q second counts o → Answers edit_answers o.number o.place
@@ -74,12 +74,12 @@ edit_answers_lem table buffer used q second counts o e =
         (made (of_table table).elements q (take used buffer) counts)
         (limit_number (of_table table).elements (length buffer) (length second) q (take used buffer) counts)
         (judge_judged (of_table table) (touched_by q (take used buffer)) (toks (edited q (take used buffer))))
-    by_shape false = record { OneOf = tt; no_place = λ c. refl }
+    by_shape false = record { one_of = tt; no_place = λ c. refl }
 
     by_table : (b : Bool) → Rejects (cond b (edit_by (of_table table) buffer used q second counts) (rejected 13 0))
     by_table true = by_shape (shape_of buffer used)
-    by_table false = record { OneOf = tt; no_place = λ c. refl }
+    by_table false = record { one_of = tt; no_place = λ c. refl }
 
     finish : (x : Edited) → Rejects x → o ≡ outcome buffer used second counts x → Answers edit_answers o.number o.place
     finish (rejected n p) h e = let a : o.number ≡ n = cc in let b : o.place ≡ p = cc in rw (a, b) h
-    finish (done m) h e = let a : o.number ≡ 0 = cc in let b : o.place ≡ 0 = cc in rw (a, b) (record { OneOf = tt; no_place = λ c. refl })
+    finish (done m) h e = let a : o.number ≡ 0 = cc in let b : o.place ≡ 0 = cc in rw (a, b) (record { one_of = tt; no_place = λ c. refl })

@@ -45,5 +45,5 @@ unfolding spot
 spot_answers_lem text o e = rw e (go (declared text) refl)
   where
     go : (r : Read (List Declaration)) → declared text ≡ r → Answers spot_answers (spot_in text r).number 0
-    go (stop k t) p = record { OneOf = refusal spot_answers tt tt text t k p; no_place = λ c. refl }
-    go (ok ds t) p = record { OneOf = tt; no_place = λ c. refl }
+    go (stop k t) p = record { one_of = refusal spot_answers tt tt text t k p; no_place = λ c. refl }
+    go (ok ds t) p = record { one_of = tt; no_place = λ c. refl }

@@ -40,7 +40,7 @@ kids_tops (elem n gs k f) r =
 
 pub record Sound (R : Rules) : Type 0 where
   pub root_declared : R.root < R.elements
-  pub children_declared : (e : ℕ) (w : List ℕ) → e < R.elements → eqb (R.kind e) 0 ≡ false → eqb (R.kind e) 1 ≡ false → R.Describes e w ≡ true → all (λ a. ltb a R.elements) w ≡ true
+  pub children_declared : (e : ℕ) (w : List ℕ) → e < R.elements → eqb (R.kind e) 0 ≡ false → eqb (R.kind e) 1 ≡ false → R.describes e w ≡ true → all (λ a. ltb a R.elements) w ≡ true
 
 module _ (R : Rules) (sound : Sound R) where
   -- each element of the row is declared
@@ -72,11 +72,11 @@ module _ (R : Rules) (sound : Sound R) where
   content_declared n d f e = go (eqb (R.kind n) 0) (eqb (R.kind n) 1) refl refl e
     where
       go : (a b : Bool) → eqb (R.kind n) 0 ≡ a → eqb (R.kind n) 1 ≡ b
-          → cond a (null (tops f)) (cond b (text_or_none (tops f)) (no_text (tops f) && R.Describes n (named (tops f)))) ≡ true → DeclaredTops f
+          → cond a (null (tops f)) (cond b (text_or_none (tops f)) (no_text (tops f) && R.describes n (named (tops f)))) ≡ true → DeclaredTops f
       go true b p q e = none_declared f e
       go false true p q e = text_declared f e
       go false false p q e =
-          names_declared f (sound.children_declared n (named (tops f)) d p q ((and-eq-true_iff (no_text (tops f)) (R.Describes n (named (tops f)))).0 e).1)
+          names_declared f (sound.children_declared n (named (tops f)) d p q ((and-eq-true_iff (no_text (tops f)) (R.describes n (named (tops f)))).0 e).1)
 
   -- ---- the first fault is not 7
 

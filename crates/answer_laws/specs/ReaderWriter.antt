@@ -32,12 +32,12 @@ tokens_refuse (suc room) (b ∷ s) = go (front (b ∷ s)) (tokens_refuse room)
     go (got n r) h = put_refuses of_reader n (tokens_in room r) (h r)
 
 pub counted_answers : (l : List ℕ) (r : Result) (buffer : List ℕ) (o : Counted) → Refuses l r → o ≡ counted r buffer → Answers (0 ∷ l) o.number 0
-counted_answers l (refused k) buffer o h e = let n : o.number ≡ k = cc in record { OneOf = rw n (or_right (eqb k 0) (elem k l) h); no_place = λ c. refl }
+counted_answers l (refused k) buffer o h e = let n : o.number ≡ k = cc in record { one_of = rw n (or_right (eqb k 0) (elem k l) h); no_place = λ c. refl }
   where
     or_right : (a b : Bool) → T b → T (a || b)
     or_right true b t = tt
     or_right false b t = t
-counted_answers l (made x) buffer o h e = let n : o.number ≡ 0 = cc in record { OneOf = rw n tt; no_place = λ c. refl }
+counted_answers l (made x) buffer o h e = let n : o.number ≡ 0 = cc in record { one_of = rw n tt; no_place = λ c. refl }
 
 pub read_answers : (file buffer : List ℕ) (o : Counted) → Reads file buffer o → Answers reader_answers o.number 0
 unfolding read reading

@@ -117,9 +117,9 @@ translate_answers file table o e = by_length (eqb (length table) table_length) e
         go false false false true x t = tt
 
     by_file : (p : Parsed Schema) → Stops p → o ≡ translated p table → Answers translator_answers o.0 0
-    by_file (stop k) h e = let n : o.0 ≡ k = cc in record { OneOf = rw n (stopped k h); no_place = λ c. refl }
-    by_file (ok s r) h e = let n : o.0 ≡ 0 = cc in record { OneOf = rw n tt; no_place = λ c. refl }
+    by_file (stop k) h e = let n : o.0 ≡ k = cc in record { one_of = rw n (stopped k h); no_place = λ c. refl }
+    by_file (ok s r) h e = let n : o.0 ≡ 0 = cc in record { one_of = rw n tt; no_place = λ c. refl }
 
     by_length : (b : Bool) → o ≡ cond b (translated (schema_of file) table) (13, table) → Answers translator_answers o.0 0
     by_length true e = by_file (schema_of file) (schema_stops file) e
-    by_length false e = let n : o.0 ≡ 13 = cc in record { OneOf = rw n tt; no_place = λ c. refl }
+    by_length false e = let n : o.0 ≡ 13 = cc in record { one_of = rw n tt; no_place = λ c. refl }

@@ -41,12 +41,12 @@ module _ (table : List ℕ) (e : ℕ) {kind : ℕ} (ek : kind ≡ cell (block ta
   R = of_table table
 
   -- the kind is known
-  by_kind : (i : ℕ) (d : List Tok) → stop_by (content kind (R.Describes e)) (content kind (R.begins e)) i zero d ≡ content_stop (of_table table) e i d
+  by_kind : (i : ℕ) (d : List Tok) → stop_by (content kind (R.describes e)) (content kind (R.begins e)) i zero d ≡ content_stop (of_table table) e i d
   unfolding content_good content_begun
   by_kind i d = ap₂ (λ good begun. stop_by good begun i zero d) (λ j k. good_is k j) (λ j k. begun_is k j)
     where
-      good_is : (k : List Tok) → content kind (R.Describes e) k ≡ content_good R e k
-      good_is k = ap (λ x. content x (R.Describes e) k) ek
+      good_is : (k : List Tok) → content kind (R.describes e) k ≡ content_good R e k
+      good_is k = ap (λ x. content x (R.describes e) k) ek
 
       begun_is : (k : List Tok) → content kind (R.begins e) k ≡ content_begun R e k
       begun_is k = ap (λ x. content x (R.begins e) k) ek
@@ -54,7 +54,7 @@ module _ (table : List ℕ) (e : ℕ) {kind : ℕ} (ek : kind ≡ cell (block ta
   pub content_texts : (d : List Tok) (i : ℕ) {w : Walk} → kind < 2 → Walked (texts_stop kind i d) d w → Walked (content_stop (of_table table) e i d) d w
   content_texts d i h er = walked_as er (texts_stop_lem d kind i ∙ go kind h ∙ by_kind i d)
     where
-      go : (kind : ℕ) → kind < 2 → stop_by (only_texts kind) (only_texts kind) i zero d ≡ stop_by (content kind (R.Describes e)) (content kind (R.begins e)) i zero d
+      go : (kind : ℕ) → kind < 2 → stop_by (only_texts kind) (only_texts kind) i zero d ≡ stop_by (content kind (R.describes e)) (content kind (R.begins e)) i zero d
       go zero h = ap (λ f. stop_by f f i zero d) (λ j k. no_texts k j)
       go (suc zero) h = ap (λ f. stop_by f f i zero d) (λ j k. text_or_none_lem k j)
       go (suc (suc n)) h = absurd (omega arith)
@@ -70,7 +70,7 @@ module _ (table : List ℕ) (e : ℕ) {kind : ℕ} (ek : kind ≡ cell (block ta
       ∙ ap₂ (λ good begun. stop_by good begun i zero d) (λ j k. good_is k j) (λ j k. begun_is k j)
       ∙ by_kind i d)
     where
-      good_is : (k : List Tok) → good_from b start k ≡ content kind (R.Describes e) k
+      good_is : (k : List Tok) → good_from b start k ≡ content kind (R.describes e) k
       good_is k = rw (eb, ne_eqb kind 0 (λ z. omega arith), ne_eqb kind 1 (λ z. omega arith))
 
       begun_is : (k : List Tok) → begun_from b start k ≡ content kind (R.begins e) k

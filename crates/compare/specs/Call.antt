@@ -84,7 +84,7 @@ blocks_of_lem old new e p q h k i j = record {
 pub held : {x : Bool} (t : Bool) → x ≡ t → not x ≡ false → t ≡ true
 held {x} t e h = sym e ∙ not-false x h
 
--- a proper table's first number is there, and IsSmall; an element below it has a block
+-- a proper table's first number is there, and small; an element below it has a block
 pub has_first : (t : List ℕ) → proper t ≡ true → 0 < length t
 has_first t p = omega (arith, (table_parts t p).long)
 

@@ -1,4 +1,4 @@
--- Whether a list of names that an expression Describes begins with some names: the test says what it means. Every mark can be continued to
+-- Whether a list of names that an expression describes begins with some names: the test says what it means. Every mark can be continued to
 -- a match. Assumes nothing.
 use Rattle.std.specs.Prelude.{refl, ◌↔◌, true, false, List, [], ◌∷◌, ◌++◌, ℕ, T}
 use Rattle.std.proofs.Common.{inl, inr}
@@ -39,7 +39,7 @@ after_iff r [] = (
 )
 after_iff r (a ∷ w) = after_iff (shift false a r) w
 
--- The names begin a list that the expression Describes exactly if the test says so.
+-- The names begin a list that the expression describes exactly if the test says so.
 pub begins_iff : (e : Expr) (w : List ℕ) → T (begins e w) ↔ ((v : List ℕ) × Matches e (w ++ v))
 unfolding begins matches
 begins_iff e [] = (λ t. some_word e, λ h. tt)

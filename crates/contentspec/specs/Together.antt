@@ -8,7 +8,7 @@ use Rattle.paper.specs.Basics.{most_names, between, all, from, pad}
 use Rattle.paper.specs.Expressions.{Expr, names, count}
 use Rattle.paper.specs.Sets.{ambiguous, first_word, follow_word}
 use Rattle.content_laws.specs.Names.{length_names}
-use Rattle.sets.specs.Chosen.{IsSmall}
+use Rattle.sets.specs.Chosen.{small}
 use Rattle.content.specs.declared.Model.{Model}
 use Rattle.paper_laws.specs.Basics.{length_pad}
 use Rattle.content.specs.Model.{ModelOf, follow_words, length_words}
@@ -17,7 +17,7 @@ use Rattle.ambiguity.specs.Unambiguous.{is_unambiguous, Bounded, unambiguous_iff
 
 -- ---- of an expression's own words and names, in 64 places
 
-below_small : (E : ℕ) (l : List ℕ) → E ≤ most_names → all (λ a. ltb a E) l ≡ true → IsSmall l ≡ true
+below_small : (E : ℕ) (l : List ℕ) → E ≤ most_names → all (λ a. ltb a E) l ≡ true → small l ≡ true
 below_small E [] h e = refl
 below_small E (x ∷ l) h e =
     let (p, q) = (and-eq-true_iff (ltb x E) (all (λ a. ltb a E) l)).0 e in
@@ -37,7 +37,7 @@ module _ (e : Expr) where
       few = k;
       names_long = length_pad most_names (names e) (omega (arith, length_names e));
       follow_long = length_pad most_names (map (follow_word 0 e) (from 0 (count e))) (omega (arith, length_words e));
-      low = ap IsSmall names_used ∙ below_small E (names e) h b;
+      low = ap small names_used ∙ below_small E (names e) h b;
     })
 
     words_unambiguous : {first : ℕ} → first ≡ first_word 0 e → is_unambiguous first (take n l) (take n g) ≡ not (ambiguous e)

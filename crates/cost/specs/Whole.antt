@@ -78,6 +78,6 @@ module _ (doc : List ℕ) (used at n : ℕ) (l : used ≤ length doc) (h : at + 
         = ap₂ (λ x y. length (kids zero (drop x y))) (ap suc (sym ep) ∙ sym (add-one parent)) (sym split) ∙ sym ek in
         omega (arith, looked c, z, same)
 
-  -- what the piece adds is IsSmall
+  -- what the piece adds is small
   pub piece_small : count opens piece ≤ n
   piece_small = omega (arith, count_few opens piece, length-drop at (toks (take (at + n) doc)), length_toks doc (at + n) (omega arith))

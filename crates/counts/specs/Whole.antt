@@ -16,7 +16,7 @@ use Rattle.counts.specs.Moved.{within, few, few_within, within_good, FewEach, mo
 pub record Moved (E : ℕ) (goes comes : List Tok) (counts : List ℤ) (after : List ℕ) (r : Bool) : Type 0 where
   -- all are 0 to 8,192 after it
   pub good : r ≡ all count_good (moved_from goes comes E 0 counts)
-  pub IsSmall : r ≡ all few after
+  pub small : r ≡ all few after
   -- and are these
   pub are : r ≡ true → map pos after ≡ moved_from goes comes E 0 counts
 
@@ -80,7 +80,7 @@ module _ {E : ℕ} {goes comes : List Tok} {counts : List ℤ} where
   moved_all {g} {c} {after} {r} long eg ec ea er =
       let is : after ≡ map within (moved_from goes comes E 0 counts) = ea ∙ ap₂ (moved_by counts) eg ec ∙ moved_is E goes comes counts long in
       let good : r ≡ all count_good (moved_from goes comes E 0 counts) = er ∙ ap (all few) is ∙ all_within (moved_from goes comes E 0 counts) in
-      record { good = good; IsSmall = er; are = λ h. ap (map pos) is ∙ all_good (moved_from goes comes E 0 counts) (sym good ∙ h) }
+      record { good = good; small = er; are = λ h. ap (map pos) is ∙ all_good (moved_from goes comes E 0 counts) (sym good ∙ h) }
 
 -- ---- counts as they are
 

@@ -1,4 +1,4 @@
--- The demands are not empty: the IsSmall shade and its five edits, by the contracts of the library. Assumes nothing.
+-- The demands are not empty: the small shade and its five edits, by the contracts of the library. Assumes nothing.
 use Rattle.std.specs.Prelude.{◌≡◌, refl, List, [], ◌∷◌, ℕ, ℤ}
 use contract.Lifetimes.{Lfts}
 use Rattle.std.specs.Borrow.{Bor}

@@ -10,11 +10,11 @@ use Rattle.paper.specs.Basics.{most_tokens}
 use Rattle.paper.specs.Files.{largest, bytes_of, file_of, writing, write}
 use Rattle.numbers.specs.Store.{Storable, stored, most_wide}
 use Rattle.docfile.specs.declared.Count.{Count}
-use Rattle.docfile.specs.Outcome.{outcome, answer, laid, lay_none, lay_more, IsSmall}
+use Rattle.docfile.specs.Outcome.{outcome, answer, laid, lay_none, lay_more, small}
 
 -- the tokens have bytes, and there is room for them
 pub record Ready (tokens file : List ℕ) : Type 0 where
-  pub fit : IsSmall tokens ≡ true
+  pub fit : small tokens ≡ true
   pub room : length (file_of tokens) ≤ length file
 
 -- ---- the passes
@@ -24,10 +24,10 @@ module _ (tokens : List ℕ) where
   token : (i : ℕ) → i < length tokens → drop i tokens ≡ get_or tokens i 0 ∷ drop (i + 1) tokens
   token i h = rw add-one (drop-cons tokens i 0 h)
 
-  -- the first i are IsSmall, or not; the others are asked
+  -- the first i are small, or not; the others are asked
   pub record Seeking (i : ℕ) (fine : Bool) : Type 0 where
     pub within : i ≤ length tokens
-    pub same : IsSmall tokens ≡ (fine && IsSmall (drop i tokens))
+    pub same : small tokens ≡ (fine && small (drop i tokens))
 
   pub seek_none : Seeking 0 true
   seek_none = record { within = omega arith; same = refl }
@@ -35,10 +35,10 @@ module _ (tokens : List ℕ) where
   pub seek_more : {i : ℕ} {fine : Bool} → Seeking i fine → i < length tokens → Seeking (i + 1) (fine && leb (get_or tokens i 0) largest)
   seek_more {i} {fine} c l = record {
     within = omega arith;
-    same = c.same ∙ rw (token i l) (sym (and_assoc fine (leb (get_or tokens i 0) largest) (IsSmall (drop (i + 1) tokens))));
+    same = c.same ∙ rw (token i l) (sym (and_assoc fine (leb (get_or tokens i 0) largest) (small (drop (i + 1) tokens))));
   }
 
-  pub seek_end : {i : ℕ} {fine : Bool} → Seeking i fine → length tokens ≤ i → fine ≡ IsSmall tokens
+  pub seek_end : {i : ℕ} {fine : Bool} → Seeking i fine → length tokens ≤ i → fine ≡ small tokens
   seek_end {fine = fine} c l = sym (c.same ∙ rw (drop_of_length-le tokens l) (and-true fine))
 
   -- the bytes of all tokens, where those of the first i are n
@@ -69,7 +69,7 @@ pub record Storing (tokens before : List ℕ) (at i : ℕ) (file : List ℕ) : T
   pub within : i ≤ length tokens
   pub long : length file ≡ length before
   pub room : at + length (file_of (drop i tokens)) ≤ length file
-  pub fit : IsSmall (drop i tokens) ≡ true
+  pub fit : small (drop i tokens) ≡ true
   pub same : laid 0 (file_of tokens) before ≡ laid at (file_of (drop i tokens)) file
 
 module _ (tokens before : List ℕ) where
@@ -84,11 +84,11 @@ module _ (tokens before : List ℕ) where
       sizes : at + length (bytes_of (get_or tokens i 0)) + length (file_of (drop (i + 1) tokens)) ≤ length file
       sizes = omega (arith, length-append (bytes_of (get_or tokens i 0)) (file_of (drop (i + 1) tokens)), rw (token tokens i h) at c.room)
 
-      parts : (leb (get_or tokens i 0) largest ≡ true) × (IsSmall (drop (i + 1) tokens) ≡ true)
-      parts = (and-eq-true_iff (leb (get_or tokens i 0) largest) (IsSmall (drop (i + 1) tokens))).0 (rw (token tokens i h) at c.fit)
+      parts : (leb (get_or tokens i 0) largest ≡ true) × (small (drop (i + 1) tokens) ≡ true)
+      parts = (and-eq-true_iff (leb (get_or tokens i 0) largest) (small (drop (i + 1) tokens))).0 (rw (token tokens i h) at c.fit)
 
       pub store_fits : Storable file at (get_or tokens i 0)
-      store_fits = record { IsSmall = leb-true (get_or tokens i 0) largest parts.0; room = omega (arith, sizes) }
+      store_fits = record { small = leb-true (get_or tokens i 0) largest parts.0; room = omega (arith, sizes) }
 
       pub store_more : {next : ℕ} {after : List ℕ} → (next, after) ≡ stored file at (get_or tokens i 0) → Storing tokens before next (i + 1) after
       store_more {next} {after} s =
@@ -114,13 +114,13 @@ module _ (tokens buffer : List ℕ) where
   unfolding write writing
   write_many h q = rw (q, lt-ltb most_tokens (length tokens) h)
 
-  module _ (few : length tokens ≤ most_tokens) {s : Bool} (e : s ≡ IsSmall tokens) where
+  module _ (few : length tokens ≤ most_tokens) {s : Bool} (e : s ≡ small tokens) where
     pub write_large : {r : Count} → not s ≡ true → r ≡ answer 4 0 → outcome r buffer ≡ write tokens buffer
     unfolding write writing
     write_large l q = rw (q, le-ltb most_tokens (length tokens) few, sym e ∙ not-true s l)
 
     module _ (l : not s ≡ false) {n : ℕ} (c : n ≡ length (file_of tokens)) where
-      fit : IsSmall tokens ≡ true
+      fit : small tokens ≡ true
       fit = sym e ∙ not-false s l
 
       pub write_full : {a : Count} → length buffer < n → a ≡ answer 5 0 → outcome a buffer ≡ write tokens buffer

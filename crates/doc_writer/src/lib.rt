@@ -8,7 +8,7 @@
 ghost use Rattle.std.specs.Prelude.{◌≡◌, length};
 ghost use Rattle.paper.specs.Files.{file_of};
 ghost use Rattle.paper.specs.Files;
-ghost use Rattle.docfile.specs.Outcome.{outcome, laid, IsSmall};
+ghost use Rattle.docfile.specs.Outcome.{outcome, laid, small};
 ghost use Rattle.doc_writer.specs.Writer.{Ready};
 
 use docfile::{Count, refusal};
@@ -17,7 +17,7 @@ use paper::{DONE, MOST_TOKENS, MOST_VALUE, ROOM, SHAPE};
 
 // Whether no token is too large.
 fn all_small(tokens: &[u32]) -> bool
-    ensures { result ≡ IsSmall tokens.now }
+    ensures { result ≡ small tokens.now }
 {
     let mut fine = true;
     let mut i: usize = 0;

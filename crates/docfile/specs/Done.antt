@@ -6,7 +6,7 @@ use Rattle.paper.specs.Basics.{most_tokens}
 use Rattle.paper.specs.Files.{largest, file_of, Result, refused, made, tokens_in, reading, writing, Counted, counted, read, write}
 use Rattle.numbers.specs.At.{front_small}
 use Rattle.numbers.specs.Laws.{bytes, bytes_rest, Holds, none, more, holds_one, holds_file, tokens_back, tokens_made, tokens_refused}
-use Rattle.docfile.specs.Outcome.{IsSmall}
+use Rattle.docfile.specs.Outcome.{small}
 
 -- the tokens read or the bytes written: the first places of the buffer, as many as are counted
 abbrev pub content : Counted → List ℕ
@@ -44,15 +44,15 @@ read_done file buffer e z = rw e (go (tokens_in (min (length buffer) most_tokens
 
 pub record WriteDone (tokens : List ℕ) (o : Counted) : Type 0 where
   pub few : length tokens ≤ most_tokens
-  pub fit : IsSmall tokens ≡ true
+  pub fit : small tokens ≡ true
   pub result : Made (file_of tokens) o
 
 -- a writer that is done has written the file of its tokens
 pub write_done : (tokens buffer : List ℕ) {o : Counted} → o ≡ write tokens buffer → o.number ≡ 0 → WriteDone tokens o
 unfolding write writing
-write_done tokens buffer e z = rw e (go (ltb most_tokens (length tokens)) (IsSmall tokens) (leb (length (file_of tokens)) (length buffer)) refl refl (rw e at z))
+write_done tokens buffer e z = rw e (go (ltb most_tokens (length tokens)) (small tokens) (leb (length (file_of tokens)) (length buffer)) refl refl (rw e at z))
   where
-    go : (a b c : Bool) → ltb most_tokens (length tokens) ≡ a → IsSmall tokens ≡ b
+    go : (a b c : Bool) → ltb most_tokens (length tokens) ≡ a → small tokens ≡ b
         → (counted (cond a (refused 5) (cond b (cond c (made (file_of tokens)) (refused 5)) (refused 4))) buffer).number ≡ 0
         → WriteDone tokens (counted (cond a (refused 5) (cond b (cond c (made (file_of tokens)) (refused 5)) (refused 4))) buffer)
     go true b c p q z = absurd (omega arith)
@@ -62,8 +62,8 @@ write_done tokens buffer e z = rw e (go (ltb most_tokens (length tokens)) (IsSma
 
 -- ---- one after the other
 
--- numbers that bytes hold are IsSmall
-holds_small : {s l : List ℕ} → bytes s ≡ true → Holds s l → IsSmall l ≡ true
+-- numbers that bytes hold are small
+holds_small : {s l : List ℕ} → bytes s ≡ true → Holds s l → small l ≡ true
 holds_small h none = refl
 holds_small {s} h (more {n = n} p q) = rw (le-leb n largest (front_small s h p)) (holds_small (bytes_rest s h p) q)
 

@@ -15,8 +15,8 @@ abbrev pub answer : ℕ → ℕ → Count
 answer k n = record { number = k; count = n }
 
 -- no token is too large
-abbrev pub IsSmall : List ℕ → Bool
-IsSmall = all (λ t. leb t largest)
+abbrev pub small : List ℕ → Bool
+small = all (λ t. leb t largest)
 
 -- a buffer with l in its places from `at` on
 abbrev pub laid : ℕ → List ℕ → List ℕ → List ℕ

@@ -83,7 +83,7 @@ module _ (text names : List ℕ) (from to count : ℕ) (out : List ℕ) (at : �
 
     -- so there is for a smaller number
     pub number_room : (n : ℕ) → n ≤ 255 - begin → Storable out at n
-    number_room n h = record { IsSmall = omega arith; room = omega (arith, both_long, no_wider n (255 - begin) h (omega arith)) }
+    number_room n h = record { small = omega arith; room = omega (arith, both_long, no_wider n (255 - begin) h (omega arith)) }
 
     module _ (n next : ℕ) (mid : List ℕ) (e : (next, mid) ≡ stored out at n) (h : n ≤ 255 - begin) where
       number_put : Put out at (bytes_of n) next mid

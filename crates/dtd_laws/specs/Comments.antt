@@ -149,7 +149,7 @@ inside_exact (suc n) =
     (chain_strict chars_exact chars_strict (λ z. inside_exact n)))
     (λ u s r. (turn_to u s r, turn_back u s r))
 
--- ---- a bound above the text's length is never too IsSmall
+-- ---- a bound above the text's length is never too small
 
 pub char_less : (s : List ℕ) {z : ℕ} {t : List ℕ} → R.char s ≡ ok z t → length t < length s
 char_less s {z} {t} e = chars_strict z s t ((chars_exact {n = 0}).gives e)

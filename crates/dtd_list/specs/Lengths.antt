@@ -14,12 +14,12 @@ up_to room n = cond (leb n room) n (room + 1)
 pub record Counting (names : List ℕ) (count from room : ℕ) : Type 0 where
   pub some : count ≤ length names
   pub within : from ≤ room
-  pub IsSmall : room < 18446744073709551615
+  pub small : room < 18446744073709551615
 
 pub record BothCounted (elements : List ℕ) (count : ℕ) (attributes : List ℕ) (defined room : ℕ) : Type 0 where
   pub some : count ≤ length elements
   pub some_attributes : defined ≤ length attributes
-  pub IsSmall : room < 18446744073709551615
+  pub small : room < 18446744073709551615
 
 -- ---- names in a row
 

@@ -1,4 +1,4 @@
--- A turn of the reader of models, with no bound to be seen: a bound above the text's length is never too IsSmall. Assumes nothing.
+-- A turn of the reader of models, with no bound to be seen: a bound above the text's length is never too small. Assumes nothing.
 use Rattle.std.specs.Prelude.{◌≡◌, Bool, List, ℕ, zero, suc, ◌≤◌, ◌<◌, eqb, length}
 use Rattle.std.proofs.Common.{arith}
 use Rattle.paper.specs.Dtd.Letters.{Name, is_white, run, past, opening, comma, bar}

@@ -27,7 +27,7 @@ members_none n = chosen_none (from 0 n)
 pub members_next : (n w : ℕ) → w < 2 ^ n → (w ≡ 0 → ⊥) → members_to n w ≡ count_trailing_zeros n w ∷ members_to n (cleared w)
 unfolding members_to
 members_next n w h z =
-    let e : get_or (from 0 n) (count_trailing_zeros n w) 0 ≡ count_trailing_zeros n w = from_at n 0 (count_trailing_zeros n w) (turn n w h z).IsSmall ∙ omega arith in
+    let e : get_or (from 0 n) (count_trailing_zeros n w) 0 ≡ count_trailing_zeros n w = from_at n 0 (count_trailing_zeros n w) (turn n w h z).small ∙ omega arith in
     chosen_cleared n w h (omega arith) (from 0 n) (length_from 0 n) ∙ ap (λ k. k ∷ chosen (cleared w) (from 0 n)) e
 
 ones_zero : ones 0 ≡ 0

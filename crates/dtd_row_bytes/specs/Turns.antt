@@ -65,7 +65,7 @@ module _ (r : Row) (s : List ℕ) (at : ℕ) where
       from_next = ap (λ l. concat (map attribute_written (map (attribute_in r) l))) (members_next 64 rest w.fits z)
 
       pub walking_room : (count_trailing_zeros 64 rest < 64) × (next + 3 ≤ length t)
-      walking_room = ((turn 64 rest w.fits z).IsSmall, omega (arith, w.putting.room, ap length from_next))
+      walking_room = ((turn 64 rest w.fits z).small, omega (arith, w.putting.room, ap length from_next))
 
       pub walking_less : cleared rest < rest
       walking_less = (turn 64 rest w.fits z).less

@@ -41,7 +41,7 @@ pub record DeclaredAt (ds : List Declaration) (i : ℕ) : Type 0 where
   pub place : length (element_names before) ≡ i
 
 -- "the translated table then judges by the text's own expressions". k: an element's children and texts. EMPTY and text alone are as in
--- any schema; a model Describes the children's names.
+-- any schema; a model describes the children's names.
 abbrev pub ContentMeant : List Declaration → Content → List Tok → Type 0
 ContentMeant ds empty k = ContentValid schema.empty k
 ContentMeant ds text k = ContentValid schema.text k
@@ -151,7 +151,7 @@ starts_same (m ∷ v) (n ∷ w) e =
     let r = starts_same v w t in
     cc
 
--- Children of declared names, by their numbers, are valid content of an element with a model exactly if the model Describes the names.
+-- Children of declared names, by their numbers, are valid content of an element with a model exactly if the model describes the names.
 pub children_by_text : (s : List ℕ) (ds : List Declaration) → Taken s ds → (i : ℕ) (d : DeclaredAt ds i) (p : Part) → d.content ≡ model p
     → (w : List Name) → all_among (element_names ds) w ≡ true
     → ContentValid (element_at (schema_for ds) i).content (map Start (map (number ds) w)) ↔ Describes p w

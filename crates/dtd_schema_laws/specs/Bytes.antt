@@ -1,4 +1,4 @@
--- The file of a schema within the limits is a list of bytes: its numbers are IsSmall. Assumes nothing.
+-- The file of a schema within the limits is a list of bytes: its numbers are small. Assumes nothing.
 use Rattle.std.specs.Prelude.{◌≡◌, refl, Bool, true, false, cond, not, ◌&&◌, ◌||◌, List, [], ◌∷◌, ◌++◌, map, ℕ, suc, ◌+◌, ◌-◌, ◌/◌, ◌%◌, ◌≤◌, ◌<◌, leb, ltb, eqb, length}
 use Rattle.std.proofs.Common.{subst, arith, leb-true, le-leb, ltb-true, ltb-false, lt-ltb}
 use Rattle.std.proofs.Math.Bool.{and-eq-true_iff}
@@ -13,7 +13,7 @@ use Rattle.content_laws.specs.Symbols.{range_names}
 use Rattle.numbers.specs.Store.{bytes_one, bytes_two, bytes_three}
 use Rattle.numbers.specs.Laws.{bytes}
 
--- ---- IsSmall numbers
+-- ---- small numbers
 
 abbrev low : ℕ → Bool
 low n = leb n most_number
@@ -57,7 +57,7 @@ attribute_low y p q r s =
     last true = rw (le-leb y.value most_number s)
     last false = refl
 
--- the largest status and value are IsSmall
+-- the largest status and value are small
 status_most : (k met : ℕ) → most_status k met ≤ 2
 status_most k met = go (eqb k 0 && ltb met most_fixed)
   where

@@ -1,4 +1,4 @@
--- Children of declared names, by their numbers, match a model's expression exactly if the model of the text Describes them.
+-- Children of declared names, by their numbers, match a model's expression exactly if the model of the text describes them.
 -- Assumes nothing.
 use Rattle.std.specs.Prelude.{◌≡◌, refl, ◌↔◌, ◌⊎◌, Bool, true, false, cond, ◌||◌, List, [], ◌∷◌, ◌++◌, map, ℕ, suc}
 use Rattle.std.proofs.Common.{sym, subst, ◌∙◌, inl, inr, arith}
@@ -44,7 +44,7 @@ same_names l (n ∷ u) (m ∷ v) p q e =
     let y = same_names l u v b d j in
     cc
 
--- ---- what a model Describes is made of its names
+-- ---- what a model describes is made of its names
 
 module _ (P : Name → Bool) where
   abbrev Made : Children → Type 0

@@ -88,7 +88,7 @@ module _ (f : Name → ℕ) where
   suffix_means many x = star_means x
   suffix_means several x = plus_means x
 
-  -- The numbers of the children that a part of the text Describes are the words of its expression.
+  -- The numbers of the children that a part of the text describes are the words of its expression.
   mutual
     pub part_means : (p : Part) → Means (expr_of p f) (Describes p)
     part_means (word n q) = suffix_means q (name_means n)

@@ -100,7 +100,7 @@ translate_else = ambiguity.translate_else
 pub means : (f : Name → ℕ) (p : Part) (v : List ℕ) → Matches (expr_of p f) v ↔ ((w : List Name) × (map f w ≡ v) × Describes p w)
 means = part_means
 
--- Children of declared names match a model's expression, by their numbers, exactly if the model of the text Describes them.
+-- Children of declared names match a model's expression, by their numbers, exactly if the model of the text describes them.
 pub judges : (l : List Name) (p : Part) (w : List Name) → each p (λ n. among n l) ≡ true → all_among l w ≡ true
     → Matches (expr_of p (number_in l)) (map (number_in l) w) ↔ Describes p w
 judges = judged.judged
@@ -110,7 +110,7 @@ pub numbered : (s : List ℕ) (ds : List Declaration) → Taken s ds → (i : �
 numbered = by_text.number_of
 
 -- An element is valid by the text's schema exactly if the text declares one of its number, its attributes are valid, and its content is
--- what the text declares: EMPTY, no text or one, or children whose names the text's model Describes.
+-- what the text declares: EMPTY, no text or one, or children whose names the text's model describes.
 pub element_by_text : (ds : List Declaration) (i : ℕ) (h k : List Tok)
     → ElementValid (schema_for ds) i h k ↔ ((d : DeclaredAt ds i) × AttributesValid (element_at (schema_for ds) i) h × ContentMeant ds d.content k)
 element_by_text = by_text.element_by_text
@@ -119,7 +119,7 @@ pub content_by_text : (ds : List Declaration) (i : ℕ) (d : DeclaredAt ds i) (k
     → ContentValid (element_at (schema_for ds) i).content k ↔ ContentMeant ds d.content k
 content_by_text = by_text.content_by_text
 
--- For children of declared names: they are valid content of an element with a model exactly if the model Describes the names.
+-- For children of declared names: they are valid content of an element with a model exactly if the model describes the names.
 pub children_by_text : (s : List ℕ) (ds : List Declaration) → Taken s ds → (i : ℕ) (d : DeclaredAt ds i) (p : Part) → d.content ≡ model p
     → (w : List Name) → all_among (element_names ds) w ≡ true
     → ContentValid (element_at (schema_for ds) i).content (map Start (map (number ds) w)) ↔ Describes p w

@@ -236,7 +236,7 @@ module _ (op place : ℕ) (piece buf : List ℕ) (used : ℕ) where
 
         -- all are good, and can be written
         pub edit_put : not y ≡ false → all few moves ≡ true
-        edit_put h = sym ey.IsSmall ∙ not-false y h
+        edit_put h = sym ey.small ∙ not-false y h
 
         module _ (hy : not y ≡ false) {w : Finding} (ew : Found table after r.used r.at r.coming w) where
           fault_is : (w.number, w.place) ≡ judge (of_table table) (touched_by q doc) (toks (edited q doc))

@@ -31,7 +31,7 @@ count_in t p = omega (arith, table_parts t p)
 -- the entries from i on are what is left to look through
 pub record Looking (t : List ℕ) (n e a i : ℕ) : Type 0 where
   pub long : length t ≡ table_length
-  pub IsSmall : n ≤ most_fixed
+  pub small : n ≤ most_fixed
   pub few : i ≤ n
   pub left : fixed_by (entries (fixed_part t)) e a ≡ fixed_by (entries_in (n - i) (drop (entry_at i) t)) e a
 
@@ -43,7 +43,7 @@ module _ (t : List ℕ) (e a : ℕ) where
       let z : get_or t fixed_at 0 - 0 ≡ get_or t fixed_at 0 = omega arith in
       record {
         long = q.long;
-        IsSmall = omega (arith, few_fixed t (fixed_part t) q.fixed, count_at t);
+        small = omega (arith, few_fixed t (fixed_part t) q.fixed, count_at t);
         few = omega arith;
         left = rw z (ap (λ l. fixed_by l e a) (same_entries t (get_or t fixed_at 0) refl));
       }
@@ -60,7 +60,7 @@ module _ (t : List ℕ) (e a : ℕ) where
       pub looking_more : eqb e (get_or t (entry_at i) 0) && eqb a (get_or t (entry_at i + 1) 0) ≡ false → Looking t n e a (i + 1)
       looking_more q = record {
         long = c.long;
-        IsSmall = c.IsSmall;
+        small = c.small;
         few = omega arith;
         left = c.left ∙ ap (λ l. fixed_by l e a) (entry_next t n i h refl refl refl) ∙ rw q;
       }

@@ -23,7 +23,7 @@ formed : (room : ℕ) (q : Request) (doc : List ℕ) → T (elem (form_fault roo
 formed room q doc = each (λ k. T (elem k group_answers)) (0 ∷ 4 ∷ 5 ∷ 6 ∷ []) (tt, (tt, (tt, (tt, tt)))) (form_fault room q doc) (form_number room q doc)
 
 more : {n p : ℕ} → Answers check_answers n p → Answers group_answers n p
-more {n} {p} a = record { OneOf = go (eqb n 5) (eqb n 6) a.OneOf; no_place = a.no_place }
+more {n} {p} a = record { one_of = go (eqb n 5) (eqb n 6) a.one_of; no_place = a.no_place }
   where
     go : (b c : Bool) → T (elem n check_answers) → T (b || (c || elem n check_answers))
     go true c t = tt
@@ -35,13 +35,13 @@ begun_answers : (buffer : List ℕ) (used : ℕ) (second : List ℕ) (w : Work) 
 begun_answers buffer used second w a h = go (eqb a.0 0)
   where
     go : (b : Bool) → let o : GroupOutcome = cond b (copied buffer used second w) (stopped buffer used second w a) in Answers group_answers o.number o.place
-    go true = record { OneOf = tt; no_place = λ c. refl }
+    go true = record { one_of = tt; no_place = λ c. refl }
     go false = h
 
 module _ (table buffer : List ℕ) (used : ℕ) (second : List ℕ) (h : Begins table buffer used second) (es : List Request) (w : Work) where
   refused_answers : Refused (length buffer) 1 (take used buffer) es w → Answers group_answers (verdict (of_table table) w).0 (verdict (of_table table) w).1
   refused_answers r =
-      rw (ne_eqb w.number 0 r.refused) (record { OneOf = rw r.number (formed (length buffer) r.edit (after r.ahead (take used buffer))); no_place = λ c. refl })
+      rw (ne_eqb w.number 0 r.refused) (record { one_of = rw r.number (formed (length buffer) r.edit (after r.ahead (take used buffer))); no_place = λ c. refl })
 
   -- the last document is judged whole: what a check of it would answer
   reached_answers : Reached (length buffer) (take used buffer) es w → Answers group_answers (verdict (of_table table) w).0 (verdict (of_table table) w).1
@@ -57,7 +57,7 @@ pub group_answers_lem : (table buffer : List ℕ) (used : ℕ) (list second : Li
     → let o : GroupOutcome = group table buffer used list second in Answers group_answers o.number o.place
 group_answers_lem table buffer used list second =
     by_ways (λ o. Answers group_answers o.number o.place) table buffer used second
-    (record { OneOf = tt; no_place = λ c. refl }) (record { OneOf = tt; no_place = λ c. refl }) (record { OneOf = tt; no_place = λ c. refl }) list
+    (record { one_of = tt; no_place = λ c. refl }) (record { one_of = tt; no_place = λ c. refl }) (record { one_of = tt; no_place = λ c. refl }) list
     (λ h es w f. begun_answers buffer used second w (verdict (of_table table) w)
     (elim (worked_told (length buffer) 1 used (take used buffer) es) [
       | inl r ↦ reached_answers table buffer used second h es w (rw (← f) at r)

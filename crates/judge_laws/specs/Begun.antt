@@ -61,7 +61,7 @@ model_begun e k i =
           joined (t, (begins_iff e (named k)).1 (r, rw d at m)),
     )
 
--- Of a model it is told in words: content begins with elements of the names u exactly if the expression Describes a list that begins with u ..
+-- Of a model it is told in words: content begins with elements of the names u exactly if the expression describes a list that begins with u ..
 pub names_begun : (e : Expr) (u : List ℕ) → Begun (model e) (map Start u) ↔ ((v : List ℕ) × Matches e (u ++ v))
 names_begun e u = (
   λ h.

@@ -94,10 +94,10 @@ module _ (t : List ℕ) (e : ℕ) where
   whole : (k : List Tok) → T (content_good R e k) → T (content_begun R e k)
   unfolding content_begun content_good
   whole k =
-      by_kind (eqb (R.kind e) 0) (eqb (R.kind e) 1) (null k) (text_or_none k) (no_text k && R.Describes e (named k)) (null k) (text_or_none k) (on k)
+      by_kind (eqb (R.kind e) 0) (eqb (R.kind e) 1) (null k) (text_or_none k) (no_text k && R.describes e (named k)) (null k) (text_or_none k) (on k)
       (λ s. s) (λ s. s)
       (λ s.
-      let (p, q) = (and_iff (no_text k) (R.Describes e (named k))).0 s in
+      let (p, q) = (and_iff (no_text k) (R.describes e (named k))).0 s in
       (and_iff (no_text k) (R.begins e (named k))).1 (p, ended_on (block t e) (run_from (block t e) start (named k)) q))
 
   nil : T (content_begun R e [])

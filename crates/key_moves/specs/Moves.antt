@@ -137,14 +137,14 @@ pub record Long (field counts : List ℕ) : Type 0 where
   pub values : length counts ≡ most_values
 
 module _ {field counts : List ℕ} (l : Long field counts) (t : ℕ) {y : Bool} (ey : y ≡ value_tok (tok_of t)) (n : not y ≡ false) {v : ℕ} (ev : v ≡ t / 8) where
-  IsSmall : v < most_values
-  IsSmall = omega (arith, value_small t (sym ey ∙ not-false y n))
+  small : v < most_values
+  small = omega (arith, value_small t (sym ey ∙ not-false y n))
 
   pub bit_of : v / 64 < length field
-  bit_of = omega (arith, IsSmall, l.words)
+  bit_of = omega (arith, small, l.words)
 
   pub count_of : v < length counts
-  count_of = omega (arith, IsSmall, l.values)
+  count_of = omega (arith, small, l.values)
 
 -- there are as many references as go, and room for those that come
 pub record Enough (counts refs : List ℕ) : Type 0 where

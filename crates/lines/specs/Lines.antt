@@ -103,7 +103,7 @@ pub field_put : {s t : List ℕ} {at next : ℕ} (n end : ℕ) → at + length (
 field_put {t = t} {next = next} n end h p = put_both p (put_one t next end (omega (arith, p.place, put_length p)))
 
 -- the four numbers of a line, and the room that each has
-module _ (s : List ℕ) (at k n p u : ℕ) (h : at + line_room ≤ length s) (few : k < 100000) (IsSmall : n < 4294967296) where
+module _ (s : List ℕ) (at k n p u : ℕ) (h : at + line_room ≤ length s) (few : k < 100000) (small : n < 4294967296) where
   pub room_1 : at + length (shown k) < length s
   room_1 = omega (arith, shown_few 4 k few)
 

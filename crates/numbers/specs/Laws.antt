@@ -144,8 +144,8 @@ pub tokens_back : (l : List ℕ) (room : ℕ) → all (λ t. leb t largest) l �
 tokens_back [] room a h = tokens_end room
 tokens_back (x ∷ l) zero a h = absurd (not-suc-le-zero h)
 tokens_back (x ∷ l) (suc room) a h =
-    let (IsSmall, rest) = (and-eq-true_iff (leb x largest) (all (λ t. leb t largest) l)).0 a in
-    tokens_next room (bytes_of x ++ concat (map bytes_of l)) x (concat (map bytes_of l)) (front_bytes x (concat (map bytes_of l)) (leb-true x largest IsSmall))
+    let (small, rest) = (and-eq-true_iff (leb x largest) (all (λ t. leb t largest) l)).0 a in
+    tokens_next room (bytes_of x ++ concat (map bytes_of l)) x (concat (map bytes_of l)) (front_bytes x (concat (map bytes_of l)) (leb-true x largest small))
     ∙ ap (put x) (tokens_back l room rest (le_of_suc-le-suc h))
 
 -- ---- a file that was read

@@ -8,7 +8,7 @@ use Rattle.paper.specs.Files.{largest, bytes_of}
 
 -- n has bytes, and there is room for them in s from a place on
 pub record Storable (s : List ℕ) (at n : ℕ) : Type 0 where
-  pub IsSmall : n ≤ largest
+  pub small : n ≤ largest
   pub room : at + length (bytes_of n) ≤ length s
 
 -- the place after the bytes of n, which stand in s from a place on; every other byte is as before

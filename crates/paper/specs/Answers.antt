@@ -57,5 +57,5 @@ spot_answers = 0 ∷ 2 ∷ 14 ∷ []
 
 -- an answer is one of those numbers; "The place is 0 except for 7 to 12."
 pub record Answers (numbers : List ℕ) (number place : ℕ) : Type 0 where
-  pub OneOf : T (elem number numbers)
+  pub one_of : T (elem number numbers)
   pub no_place : ¬ T (between 7 12 number) → place ≡ 0

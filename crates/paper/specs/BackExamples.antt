@@ -1,4 +1,4 @@
--- Item 2 on the IsSmall shade, by computing: edits with the numbers that take them back. Assumes nothing.
+-- Item 2 on the small shade, by computing: edits with the numbers that take them back. Assumes nothing.
 use Rattle.std.specs.Prelude.{◌≡◌, refl, List, [], ◌∷◌, map, ℕ, replicate}
 use Rattle.paper.specs.Requests.{Request}
 use Rattle.paper.specs.Files.{file_of}
@@ -7,7 +7,7 @@ use Rattle.paper.specs.Rules.{of_schema}
 use Rattle.paper.specs.Back.{went, inverse, noted, edit_in}
 use Rattle.paper.specs.Edits.{outcome, edit_by}
 use Rattle.paper.specs.Open.{all_open}
-use Rattle.paper.specs.SmallShade.{shade, IsSmall, buffer, counts}
+use Rattle.paper.specs.SmallShade.{shade, small, buffer, counts}
 
 abbrev ask : ℕ → ℕ → List ℕ → Request
 ask op at piece = record { operation = op; place = at; piece = piece }
@@ -29,18 +29,18 @@ steps =
 abbrev sevens : List ℕ
 sevens = 7 ∷ 7 ∷ 7 ∷ 7 ∷ 7 ∷ 7 ∷ 7 ∷ 7 ∷ []
 
-pub all_step : map (λ (c : Request × List ℕ). noted sevens (inverse c.0 IsSmall)) steps ≡ map (λ (c : Request × List ℕ). c.1) steps
+pub all_step : map (λ (c : Request × List ℕ). noted sevens (inverse c.0 small)) steps ≡ map (λ (c : Request × List ℕ). c.1) steps
 unfolding inverse went
 all_step = refl
 
 -- and each reads as that edit
-pub all_read : map (λ (c : Request × List ℕ). edit_in c.1) steps ≡ map (λ (c : Request × List ℕ). inverse c.0 IsSmall) steps
+pub all_read : map (λ (c : Request × List ℕ). edit_in c.1) steps ≡ map (λ (c : Request × List ℕ). inverse c.0 small) steps
 unfolding inverse went
 all_read = refl
 
 -- ---- the second buffer's room
 
--- the number of an edit of the IsSmall shade, by its expressions, with a second buffer of so many places
+-- the number of an edit of the small shade, by its expressions, with a second buffer of so many places
 abbrev pub number_with : Parsed Schema → Request × ℕ → ℕ
 number_with (stop k) x = k
 number_with (ok s r) x = let second : List ℕ = replicate x.1 7 in (outcome buffer 15 second counts (edit_by (of_schema s) buffer 15 x.0 second counts)).number

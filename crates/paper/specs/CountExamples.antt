@@ -1,4 +1,4 @@
--- Item 7 on the IsSmall shade, by computing: its true counts, what edits make of them, 15, and the question. Assumes nothing.
+-- Item 7 on the small shade, by computing: its true counts, what edits make of them, 15, and the question. Assumes nothing.
 use Rattle.std.specs.Prelude.{◌≡◌, refl, List, [], ◌∷◌, ◌++◌, map, ℕ, ℤ, pos, negsuc, replicate}
 use Rattle.paper.specs.Files.{file_of}
 use Rattle.paper.specs.Schema.{Schema, Parsed, stop, ok, schema_of}
@@ -6,7 +6,7 @@ use Rattle.paper.specs.Table.{table_of}
 use Rattle.paper.specs.Counts.{checked_counts, moved, elements_of}
 use Rattle.paper.specs.Edits.{Request, edit}
 use Rattle.paper.specs.Open.{all_open}
-use Rattle.paper.specs.SmallShade.{shade, IsSmall, buffer, second, counts}
+use Rattle.paper.specs.SmallShade.{shade, small, buffer, second, counts}
 
 abbrev ask : ℕ → ℕ → List ℕ → Request
 ask op at piece = record { operation = op; place = at; piece = piece }
@@ -56,7 +56,7 @@ unfolding all_open
 all_after = refl
 
 -- an element of no declared name is counted nowhere
-pub undeclared : moved 4 (ask 1 10 (33 ∷ 2 ∷ [])) IsSmall counts ≡ counts
+pub undeclared : moved 4 (ask 1 10 (33 ∷ 2 ∷ [])) small counts ≡ counts
 unfolding all_open
 undeclared = refl
 

@@ -3,7 +3,7 @@
 pub mod Letters
 -- what a text declares, as data
 pub mod Declarations
--- which children a model of the text Describes, over names
+-- which children a model of the text describes, over names
 pub mod Meaning
 -- which texts spell which declarations: XML 1.0's productions, cut down to the subset
 pub mod Grammar

@@ -14,7 +14,7 @@ pub data Expr : Type 0 where
 
 -- ---- meaning
 
--- e Describes the list of elements: "a child sequence that the expression Describes"
+-- e describes the list of elements: "a child sequence that the expression describes"
 pub data Matches : Expr → List ℕ → Type 0 where
   this : {a : ℕ} → Matches (name a) (a ∷ [])
   then : {e f : Expr} {u v : List ℕ} → Matches e u → Matches f v → Matches (seq e f) (u ++ v)

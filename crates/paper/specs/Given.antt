@@ -14,7 +14,7 @@ use Rattle.paper.specs.Dtd.Imported.{import, names, spot}
 use Rattle.paper.specs.Answers.{reader_answers, writer_answers, translator_answers, check_answers, edit_answers, elements_answers, compare_answers}
 use Rattle.paper.specs.Answers.{import_answers, names_answers, spot_answers}
 use Rattle.paper.specs.Open.{all_open}
-use Rattle.paper.specs.SmallShade.{shade_with, shade, IsSmall, second, counts}
+use Rattle.paper.specs.SmallShade.{shade_with, shade, small, second, counts}
 
 -- nothing; a number that goes on; a token for which there is no place
 pub reader_gives : map (λ file. (read file []).number) ([] ∷ (128 ∷ []) ∷ (1 ∷ []) ∷ []) ≡ reader_answers
@@ -47,14 +47,14 @@ table = table_in (schema_of (file_of shade))
 -- the shade; no tokens; a panel with no ID; a shade with no panel; a panel as root; one ID twice; a reference to none; no table
 abbrev pub documents : List (List ℕ × List ℕ)
 documents =
-    (table, IsSmall)
+    (table, small)
     ∷ (table, [])
     ∷ (table, 1 ∷ 4 ∷ 61 ∷ 9 ∷ 2 ∷ 2 ∷ [])
     ∷ (table, 1 ∷ 4 ∷ 61 ∷ 2 ∷ [])
     ∷ (table, 9 ∷ 12 ∷ 165 ∷ 2 ∷ [])
     ∷ (table, 1 ∷ 4 ∷ 61 ∷ 9 ∷ 12 ∷ 165 ∷ 2 ∷ 9 ∷ 12 ∷ 165 ∷ 2 ∷ 2 ∷ [])
     ∷ (table, 1 ∷ 4 ∷ 61 ∷ 9 ∷ 12 ∷ 165 ∷ 2 ∷ 25 ∷ 20 ∷ 173 ∷ 2 ∷ 2 ∷ [])
-    ∷ ([], IsSmall)
+    ∷ ([], small)
     ∷ []
 
 -- "A whole check never gives 7"
@@ -79,18 +79,18 @@ asks n table doc op at piece =
 -- ID twice; a reference to none; no table; the use removed where none is counted
 abbrev pub requests : List Asked
 requests =
-    asks 1 table IsSmall 2 10 []
+    asks 1 table small 2 10 []
     ∷ asks 1 table [] 2 10 []
-    ∷ asks 1 table IsSmall 1 10 (9 ∷ 12 ∷ 173 ∷ 2 ∷ [])
-    ∷ asks 1 table IsSmall 0 10 []
+    ∷ asks 1 table small 1 10 (9 ∷ 12 ∷ 173 ∷ 2 ∷ [])
+    ∷ asks 1 table small 0 10 []
     ∷ asks 1 table (1 ∷ 4 ∷ 61 ∷ 33 ∷ 3 ∷ 2 ∷ 2 ∷ []) 2 4 []
-    ∷ asks 1 table IsSmall 5 3 (12 ∷ [])
-    ∷ asks 1 table IsSmall 2 3 []
-    ∷ asks 1 table IsSmall 3 0 (9 ∷ 12 ∷ 165 ∷ 2 ∷ [])
-    ∷ asks 1 table IsSmall 3 10 (9 ∷ 12 ∷ 165 ∷ 2 ∷ [])
-    ∷ asks 1 table IsSmall 3 3 (9 ∷ 12 ∷ 173 ∷ 2 ∷ [])
-    ∷ asks 1 [] IsSmall 2 10 []
-    ∷ asks 0 table IsSmall 2 10 []
+    ∷ asks 1 table small 5 3 (12 ∷ [])
+    ∷ asks 1 table small 2 3 []
+    ∷ asks 1 table small 3 0 (9 ∷ 12 ∷ 165 ∷ 2 ∷ [])
+    ∷ asks 1 table small 3 10 (9 ∷ 12 ∷ 165 ∷ 2 ∷ [])
+    ∷ asks 1 table small 3 3 (9 ∷ 12 ∷ 173 ∷ 2 ∷ [])
+    ∷ asks 1 [] small 2 10 []
+    ∷ asks 0 table small 2 10 []
     ∷ []
 
 pub edit_gives : map (λ (x : Asked). (edit x.table x.doc (length x.doc) x.request second x.counts).number) requests ≡ edit_answers

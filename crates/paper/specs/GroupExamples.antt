@@ -1,11 +1,11 @@
--- Item 9 on the IsSmall shade, by computing: panel 20 becomes 21 together with its use, in one group; each step alone is refused. Assumes
+-- Item 9 on the small shade, by computing: panel 20 becomes 21 together with its use, in one group; each step alone is refused. Assumes
 -- nothing.
 use Rattle.std.specs.Prelude.{◌≡◌, refl, List, [], ◌∷◌, ◌++◌, ℕ, pos, ◌-ℤ◌, take, replicate}
 use Rattle.paper.specs.Files.{file_of}
 use Rattle.paper.specs.Schema.{Schema, Parsed, stop, ok, schema_of}
 use Rattle.paper.specs.Table.{table_of}
 use Rattle.paper.specs.Open.{all_open}
-use Rattle.paper.specs.SmallShade.{shade, IsSmall, buffer}
+use Rattle.paper.specs.SmallShade.{shade, small, buffer}
 use Rattle.paper.specs.Groups.{GroupOutcome, group}
 
 -- the panel's ID is set to 21, and the use's reference
@@ -49,7 +49,7 @@ unfolding all_open
 use_alone = refl
 
 -- a use comes, it goes again, and the third edit is at no place: 0 up to the longest that was reached
-pub third_refused : asked (1 ∷ 10 ∷ 4 ∷ 25 ∷ 20 ∷ 165 ∷ 2 ∷ 2 ∷ 10 ∷ 0 ∷ 2 ∷ 1 ∷ 0 ∷ []) lent ≡ refused 6 0 3 (IsSmall ++ (0 ∷ 0 ∷ 0 ∷ 0 ∷ 5 ∷ 5 ∷ 5 ∷ []))
+pub third_refused : asked (1 ∷ 10 ∷ 4 ∷ 25 ∷ 20 ∷ 165 ∷ 2 ∷ 2 ∷ 10 ∷ 0 ∷ 2 ∷ 1 ∷ 0 ∷ []) lent ≡ refused 6 0 3 (small ++ (0 ∷ 0 ∷ 0 ∷ 0 ∷ 5 ∷ 5 ∷ 5 ∷ []))
 unfolding all_open
 third_refused = refl
 
@@ -61,19 +61,19 @@ pub shorter : asked (2 ∷ 10 ∷ 0 ∷ []) lent
       used = 11;
       change = pos 11 -ℤ pos 15;
       which = 0;
-      buffer = take 10 IsSmall ++ (2 ∷ 0 ∷ 0 ∷ 0 ∷ 0 ∷ replicate 5 7);
-      second = take 10 IsSmall ++ (2 ∷ 0 ∷ 0 ∷ 0 ∷ 0 ∷ replicate 7 5);
+      buffer = take 10 small ++ (2 ∷ 0 ∷ 0 ∷ 0 ∷ 0 ∷ replicate 5 7);
+      second = take 10 small ++ (2 ∷ 0 ∷ 0 ∷ 0 ∷ 0 ∷ replicate 7 5);
     }
 unfolding all_open
 shorter = refl
 
 -- a first edit that is refused has begun: the second buffer then holds the starting document
-pub first_refused : asked (2 ∷ 1 ∷ 0 ∷ []) lent ≡ refused 6 0 1 (IsSmall ++ replicate 7 5)
+pub first_refused : asked (2 ∷ 1 ∷ 0 ∷ []) lent ≡ refused 6 0 1 (small ++ replicate 7 5)
 unfolding all_open
 first_refused = refl
 
 -- the size is the first buffer's: 21 tokens would fit the second one alone
-pub first_buffers : asked (1 ∷ 10 ∷ 6 ∷ 25 ∷ 20 ∷ 165 ∷ 165 ∷ 165 ∷ 2 ∷ []) lent ≡ refused 5 0 1 (IsSmall ++ replicate 7 5)
+pub first_buffers : asked (1 ∷ 10 ∷ 6 ∷ 25 ∷ 20 ∷ 165 ∷ 165 ∷ 165 ∷ 2 ∷ []) lent ≡ refused 5 0 1 (small ++ replicate 7 5)
 unfolding all_open
 first_buffers = refl
 

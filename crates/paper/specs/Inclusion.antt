@@ -11,7 +11,7 @@ use Rattle.paper.specs.Rules.{Rules, of_table}
 
 -- the child sequences, by their names, that the content of element e takes. EMPTY takes the one that has no child.
 abbrev pub takes : Rules → ℕ → List ℕ → Bool
-takes R e w = cond (eqb (R.kind e) 0) (null w) (R.Describes e w)
+takes R e w = cond (eqb (R.kind e) 0) (null w) (R.describes e w)
 
 -- The same as a statement, by what an expression means. A text is no child sequence, and is not compared.
 abbrev pub Takes : Content → List ℕ → Type 0

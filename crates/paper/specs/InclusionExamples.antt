@@ -1,4 +1,4 @@
--- Item 12 on IsSmall models, by computing. The elements are a = 0 and b = 1. Assumes nothing.
+-- Item 12 on small models, by computing. The elements are a = 0 and b = 1. Assumes nothing.
 use Rattle.std.specs.Prelude.{◌≡◌, refl, List, [], ◌∷◌, ℕ}
 use Rattle.std.proofs.Math.Option.{Option, none, some}
 use Rattle.paper.specs.Expressions.{Expr, name, seq, alt, opt, star, plus}

@@ -102,7 +102,7 @@ text_or_none (Value n ∷ k) = false
 text_or_none (Bad ∷ k) = false
 
 -- "content (9): EMPTY has no child and no text, text only [..], a model has no text and a child sequence that the expression
--- Describes": by kind, and a test of a model's names
+-- describes": by kind, and a test of a model's names
 abbrev pub content : (kind : ℕ) → (List ℕ → Bool) → List Tok → Bool
 content kind names k =
     cond (eqb kind 0) (null k)
@@ -110,7 +110,7 @@ content kind names k =
     (no_text k && names (named k)))
 
 unfoldable pub content_good : Rules → ℕ → List Tok → Bool
-content_good R e k = content (R.kind e) (R.Describes e) k
+content_good R e k = content (R.kind e) (R.describes e) k
 
 -- valid content of the element begins with the children k
 unfoldable pub content_begun : Rules → ℕ → List Tok → Bool

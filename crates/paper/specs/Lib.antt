@@ -37,7 +37,7 @@ pub mod Inclusion
 -- "Answer numbers": which numbers a call gives, and what each call does
 pub mod Answers
 pub mod Calls
--- "The IsSmall shade": the edit program, the schema and the document
+-- "The small shade": the edit program, the schema and the document
 pub mod Program
 pub mod Open
 pub mod SmallShade

@@ -1,4 +1,4 @@
--- Item 6 on the IsSmall shade, by computing: edits done, a refusal among them, and the list's own faults. Assumes nothing.
+-- Item 6 on the small shade, by computing: edits done, a refusal among them, and the list's own faults. Assumes nothing.
 use Rattle.std.specs.Prelude.{◌≡◌, refl, List, [], ◌∷◌, ◌++◌, map, ℕ, ℤ, pos, ◌-ℤ◌, take, replicate}
 use Rattle.paper.specs.Basics.{concat}
 use Rattle.paper.specs.Files.{file_of}
@@ -7,7 +7,7 @@ use Rattle.paper.specs.Table.{table_of}
 use Rattle.paper.specs.Edits.{Outcome}
 use Rattle.paper.specs.Lists.{split_list, fault_of, Listed, edit_list}
 use Rattle.paper.specs.Open.{all_open}
-use Rattle.paper.specs.SmallShade.{shade, IsSmall, buffer, counts}
+use Rattle.paper.specs.SmallShade.{shade, small, buffer, counts}
 
 -- the last answer's number, place, used length, change and children looked at, and how many edits are done
 abbrev Told : Type 0
@@ -16,7 +16,7 @@ Told = ℕ × ℕ × ℕ × ℤ × ℕ × ℕ
 abbrev told : Listed Outcome → Told
 told o = (o.last.number, o.last.place, o.last.used, o.last.change, o.last.children, o.done)
 
--- a list on the IsSmall shade
+-- a list on the small shade
 abbrev runs : Parsed Schema → List ℕ → Listed Outcome
 runs (stop n) l = edit_list [] buffer 15 l counts
 runs (ok s r) l = edit_list (table_of s) buffer 15 l counts
@@ -54,7 +54,7 @@ unfolding all_open
 all_told = refl
 
 -- "what was done before stands": the use is gone
-pub stands : (runs (schema_of (file_of shade)) (no_use ++ (no_panel ++ new_use))).last.buffer ≡ take 10 IsSmall ++ (2 ∷ 0 ∷ 0 ∷ 0 ∷ 0 ∷ 7 ∷ 7 ∷ 7 ∷ 7 ∷ 7 ∷ [])
+pub stands : (runs (schema_of (file_of shade)) (no_use ++ (no_panel ++ new_use))).last.buffer ≡ take 10 small ++ (2 ∷ 0 ∷ 0 ∷ 0 ∷ 0 ∷ 7 ∷ 7 ∷ 7 ∷ 7 ∷ 7 ∷ [])
 unfolding all_open
 stands = refl
 

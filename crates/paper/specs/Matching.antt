@@ -1,4 +1,4 @@
--- Whether an expression Describes a list of names, and whether a list that it Describes begins with them, as tests that need neither a
+-- Whether an expression describes a list of names, and whether a list that it describes begins with them, as tests that need neither a
 -- table nor sets: the names that can have been read last carry a mark, and each further name moves the marks. That the tests say what
 -- `Matches` means, of every expression, ambiguous or not, is proved in the crate `content_laws`. Assumes nothing.
 use Rattle.std.specs.Prelude.{Bool, true, false, ◌&&◌, ◌||◌, List, [], ◌∷◌, ℕ, eqb}
@@ -69,7 +69,7 @@ abbrev pub live_after : Reading → List ℕ → Bool
 live_after r [] = live r
 live_after r (a ∷ w) = live_after (shift false a r) w
 
--- Item 3: "valid content can begin that way": a list of names that e Describes begins with these
+-- Item 3: "valid content can begin that way": a list of names that e describes begins with these
 unfoldable pub begins : Expr → List ℕ → Bool
 begins e [] = true
 begins e (a ∷ w) = live_after (shift true a (fresh e)) w

@@ -30,7 +30,7 @@ abbrev pub second : List ℕ
 second = replicate most_back 0
 
 -- "one for each edit, from 1": the lines of the edits in the bytes s. An edit is one byte or more, so `bytes`, the file's
--- length, is never too IsSmall a bound on their number.
+-- length, is never too small a bound on their number.
 abbrev pub edit_lines : (bytes : ℕ) → Rules → (k : ℕ) → (buffer : List ℕ) → (used : ℕ) → (counts : List ℤ) → List ℕ → List Line
 edit_lines zero R k buffer used counts s = []
 edit_lines (suc bytes) R k buffer used counts [] = []

@@ -13,9 +13,9 @@ pub record Rules : Type 0 where
   -- E, and the root's name
   pub elements : ℕ
   pub root : ℕ
-  -- of an element: its kind; whether a list of children, by their names, is one that its model Describes; and whether it begins one
+  -- of an element: its kind; whether a list of children, by their names, is one that its model describes; and whether it begins one
   pub kind : ℕ → ℕ
-  pub Describes : ℕ → List ℕ → Bool
+  pub describes : ℕ → List ℕ → Bool
   pub begins : ℕ → List ℕ → Bool
   -- of an element and an attribute
   pub allowed : ℕ → ℕ → Bool
@@ -57,7 +57,7 @@ of_schema s = record {
   elements = length s.elements;
   root = s.root;
   kind = λ e. kind_number (element_at s e).content;
-  Describes = λ e w. described_by (element_at s e).content w;
+  describes = λ e w. described_by (element_at s e).content w;
   begins = λ e w. begun_by (element_at s e).content w;
   allowed = λ e a. has (λ y. true) (element_at s e) a;
   required = λ e a. has is_required (element_at s e) a;
@@ -113,7 +113,7 @@ of_table t = record {
   elements = get_or t 0 0;
   root = get_or t 1 0;
   kind = λ e. cell (block t e) kind_at;
-  Describes = λ e w. runs (block t e) w;
+  describes = λ e w. runs (block t e) w;
   begins = λ e w. goes_on (run_from (block t e) start w);
   allowed = λ e a. bit (cell (block t e) allowed_at) a;
   required = λ e a. bit (cell (block t e) required_at) a;

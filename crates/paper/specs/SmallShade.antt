@@ -1,4 +1,4 @@
--- "The IsSmall shade": its schema and its document, and some documents by computing. The cases marked P, as one list with one statement
+-- "The small shade": its schema and its document, and some documents by computing. The cases marked P, as one list with one statement
 -- over it, stand in the crate `small_shade`. Assumes nothing.
 use Rattle.std.specs.Prelude.{◌≡◌, refl, Bool, true, false, ◌&&◌, List, [], ◌∷◌, ◌++◌, ℕ, eqb, ℤ, pos, length, replicate}
 use Rattle.paper.specs.Basics.{all, concat}
@@ -23,12 +23,12 @@ shade_with symbols =
 abbrev pub shade : List ℕ
 shade = shade_with (0 ∷ 4 ∷ 6 ∷ 3 ∷ 8 ∷ [])
 
-abbrev pub IsSmall : List ℕ
-IsSmall = 1 ∷ 4 ∷ 61 ∷ 9 ∷ 12 ∷ 165 ∷ 17 ∷ 243 ∷ 2 ∷ 2 ∷ 25 ∷ 20 ∷ 165 ∷ 2 ∷ 2 ∷ []
+abbrev pub small : List ℕ
+small = 1 ∷ 4 ∷ 61 ∷ 9 ∷ 12 ∷ 165 ∷ 17 ∷ 243 ∷ 2 ∷ 2 ∷ 25 ∷ 20 ∷ 165 ∷ 2 ∷ 2 ∷ []
 
 -- the document in a buffer of 20 places, the last five of them 7
 abbrev pub buffer : List ℕ
-buffer = IsSmall ++ (7 ∷ 7 ∷ 7 ∷ 7 ∷ 7 ∷ [])
+buffer = small ++ (7 ∷ 7 ∷ 7 ∷ 7 ∷ 7 ∷ [])
 
 -- a second buffer of 20 places that hold 7
 abbrev pub second : List ℕ
@@ -68,7 +68,7 @@ empty_row = refl
 
 -- ---- where content stops
 
--- a document by the IsSmall shade's schema, and the place of its 9
+-- a document by the small shade's schema, and the place of its 9
 abbrev pub stops_at : ℕ × List ℕ → Bool
 stops_at x = checks_as (schema_of (file_of shade)) x.1 9 x.0
 
@@ -93,7 +93,7 @@ all_stop = refl
 
 -- ---- what an edit cost
 
--- an edit of the IsSmall shade, and the children looked at
+-- an edit of the small shade, and the children looked at
 abbrev pub costs : Parsed Schema → (Request × ℕ) → Bool
 costs (stop k) x = false
 costs (ok s r) x =
@@ -110,7 +110,7 @@ costing =
     ∷ (record { operation = 3; place = 7; piece = 251 ∷ [] }, 1)
     ∷ (record { operation = 1; place = 10; piece = 9 ∷ 12 ∷ 173 ∷ 2 ∷ [] }, 3)
     ∷ (record { operation = 3; place = 3; piece = 9 ∷ 12 ∷ 165 ∷ 17 ∷ 251 ∷ 2 ∷ 2 ∷ [] }, 4)
-    ∷ (record { operation = 3; place = 0; piece = IsSmall }, 4)
+    ∷ (record { operation = 3; place = 0; piece = small }, 4)
     ∷ (record { operation = 4; place = 3; piece = 12 ∷ 165 ∷ [] }, 1)
     ∷ (record { operation = 4; place = 0; piece = 4 ∷ 69 ∷ [] }, 2)
     ∷ (record { operation = 2; place = 3; piece = [] }, 0)

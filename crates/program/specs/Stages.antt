@@ -81,7 +81,7 @@ module _ (table file edits : List ℕ) {c : Count} {tokens : List ℕ} (e : outc
   after_document = text (document_lines (of_table table) (reading file places) edits)
 
   pub document_stop : (c.number ≡ 0 → ⊥) → Stop c.number
-  document_stop z = reader_stop c.number (read_answers file places (outcome c tokens) e).OneOf z
+  document_stop z = reader_stop c.number (read_answers file places (outcome c tokens) e).one_of z
 
   pub document_ends : {out after : List ℕ} {next : ℕ} → (c.number ≡ 0 → ⊥) → Put out 0 (line_of (halt c.number)) next after → Put out 0 after_document next after
   unfolding read

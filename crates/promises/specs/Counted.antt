@@ -180,9 +180,9 @@ tell_answers table counts name o e = rw e (go (proper table) (all count_good cou
     go : (a b : Bool)
         → let x : ℕ × ℕ = cond a (cond b (0, cond (ltb name (of_table table).elements) (nat_abs (get_or counts name (pos 0))) 0) (15, 0)) (13, 0) in
         Answers elements_answers x.0 0
-    go true true = record { OneOf = tt; no_place = λ c. refl }
-    go true false = record { OneOf = tt; no_place = λ c. refl }
-    go false b = record { OneOf = tt; no_place = λ c. refl }
+    go true true = record { one_of = tt; no_place = λ c. refl }
+    go true false = record { one_of = tt; no_place = λ c. refl }
+    go false b = record { one_of = tt; no_place = λ c. refl }
 
 pub tells_tree : TellsTree papers
 unfolding elements_of

@@ -88,7 +88,7 @@ abbrev pub Numbered : Type 0
 Numbered = (text : List ℕ) (ds : List Declaration) → Declares text ds → (i : ℕ) (d : DeclaredAt ds i) → number ds d.name ≡ i
 
 -- "the translated table then judges by the text's own expressions": children of declared names are valid content of an element with a
--- model exactly if the model, with brackets of any number of parts, Describes the names
+-- model exactly if the model, with brackets of any number of parts, describes the names
 abbrev pub ContentByText : Type 0
 ContentByText = (text : List ℕ) (ds : List Declaration) → Declares text ds → (i : ℕ) (d : DeclaredAt ds i) (p : Part) → d.content ≡ model p
     → (w : List Name) → all_among (element_names ds) w ≡ true

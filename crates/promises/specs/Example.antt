@@ -1,4 +1,4 @@
--- The IsSmall shade and its five edits: the premises of demand 3 hold of them, by computing, and so does what it promises. Assumes
+-- The small shade and its five edits: the premises of demand 3 hold of them, by computing, and so does what it promises. Assumes
 -- nothing.
 use Rattle.std.specs.Prelude.{◌≡◌, refl, true, List, [], ◌∷◌, ◌++◌, map, ℕ, ◌<◌, ltb, ℤ, replicate}
 use Rattle.std.proofs.Math.Bool.{and-eq-true_iff}
@@ -15,7 +15,7 @@ use Rattle.paper.specs.Edits.{Request, Outcome, edit}
 use Rattle.paper.specs.Calls.{Checks}
 use Rattle.paper.specs.Program.{line, lines_of}
 use Rattle.paper.specs.Open.{all_open}
-use Rattle.paper.specs.SmallShade.{shade, IsSmall, buffer, second, counts}
+use Rattle.paper.specs.SmallShade.{shade, small, buffer, second, counts}
 use Rattle.promises.specs.Calls.{papers, papers_faithful}
 use Rattle.promises.specs.Right.{TrueBeside, Step, EachRight}
 use Rattle.promises.specs.Statements.{Translated, Runs}
@@ -106,7 +106,7 @@ unfolding all_open
 answers = refl
 
 -- the same by the edit program: its six lines, the check's first
-pub lines : lines_of (some (file_of shade)) (some (file_of IsSmall)) (some (file_of (concat (map numbers_of requests))))
+pub lines : lines_of (some (file_of shade)) (some (file_of small)) (some (file_of (concat (map numbers_of requests))))
     ≡ line 0 0 0 15 ∷ line 1 9 3 15 ∷ line 2 0 0 19 ∷ line 3 11 9 19 ∷ line 4 0 0 15 ∷ line 5 0 0 8 ∷ []
 unfolding all_open
 lines = refl

@@ -73,10 +73,10 @@ answers table buffer used list counts o p = rw p (go (split_list list) refl)
   where
     go : (x : Split) → split_list list ≡ x
         → let y : Listed Outcome = paper.listed (next_edit table) number_of (lent_with buffer used counts) x in Answers edit_answers y.last.number y.last.place
-    go (edits es) e = run_answers table es 0 (lent_with buffer used counts 0) (record { OneOf = tt; no_place = λ n. refl })
+    go (edits es) e = run_answers table es 0 (lent_with buffer used counts 0) (record { one_of = tt; no_place = λ n. refl })
     go (fault n) e = elim (four_or_five list n e) [
-      | inl f ↦ rw f (record { OneOf = tt; no_place = λ n. refl })
-      | inr f ↦ rw f (record { OneOf = tt; no_place = λ n. refl })
+      | inl f ↦ rw f (record { one_of = tt; no_place = λ n. refl })
+      | inr f ↦ rw f (record { one_of = tt; no_place = λ n. refl })
     ]
 
 -- ---- a second buffer with room plays no part

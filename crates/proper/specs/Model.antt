@@ -10,7 +10,7 @@ use Rattle.std.proofs.Math.Seq.{take_all}
 use Rattle.std.specs.Int.Bits.{bit_or}
 use Rattle.paper.specs.Basics.{all, most_names, most_elements, distinct}
 use Rattle.paper.specs.Table.{cell, count_at, no_child_at, first_at, last_at, names_at, follow_at, zeros, proper_next, proper_model, block_length, chosen}
-use Rattle.sets.specs.Chosen.{IsSmall}
+use Rattle.sets.specs.Chosen.{small}
 use Rattle.basic_laws.specs.Bools.{clash, same_test, fails}
 use Rattle.table_laws.specs.Parts.{model_parts}
 use Rattle.ambiguity.specs.Unambiguous.{is_unambiguous, Bounded}
@@ -128,10 +128,10 @@ module _ (E : ℕ) (b : List ℕ) where
         few = few;
         names_long = length-take-le most_names (drop names_at b) (simp length-drop (omega arith));
         follow_long = length-take-le (length b - follow_at) (drop follow_at b) (simp length-drop (omega arith)) ∙ omega arith;
-        low = ap IsSmall (take-take n most_names (drop names_at b) few) ∙ below names x;
+        low = ap small (take-take n most_names (drop names_at b) few) ∙ below names x;
       }
     where
-      below : (l : List ℕ) → all (λ a. ltb a E) l ≡ true → IsSmall l ≡ true
+      below : (l : List ℕ) → all (λ a. ltb a E) l ≡ true → small l ≡ true
       below [] e = refl
       below (a ∷ l) e = let (p, q) = (and-eq-true_iff (ltb a E) (all (λ a. ltb a E) l)).0 e in let i = ltb-true a E p in rw (lt-ltb a 64 (omega arith)) (below l q)
 

@@ -154,7 +154,7 @@ level_tok k Bad = omega arith
 
 -- ---- how large the numbers stay
 
--- a sort that has numbers leads on, and keeps the least number IsSmall
+-- a sort that has numbers leads on, and keeps the least number small
 pub leads : (n sort : ℕ) → sort < 8 → n < numbers sort → follow sort ≡ 0 → ⊥
 unfolding rules
 leads n =

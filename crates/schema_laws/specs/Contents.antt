@@ -91,11 +91,11 @@ module _ (E : ℕ) (h : E ≤ most_elements) where
   model_read : (e : Expr) (r : List ℕ) (b : Bool) → formed_model E e ≡ true → ambiguous e ≡ b
       → content_as E 2 (ahead (body_of (model e)) r) ≡ cond b (refuse 3) (pure (model e)) r
   model_read e r b p q =
-      let (u, IsSmall) = (and-eq-true_iff (leb (length (symbols_of e)) most_symbols && all (λ a. ltb a E) (names e)) (leb (count e) most_names)).0 p in
+      let (u, small) = (and-eq-true_iff (leb (length (symbols_of e)) most_symbols && all (λ a. ltb a E) (names e)) (leb (count e) most_names)).0 p in
       let (short, below) = (and-eq-true_iff (leb (length (symbols_of e)) most_symbols) (all (λ a. ltb a E) (names e))).0 u in
       then_takes (number_exact 1 most_symbols (omega arith)) _ (length (symbols_of e)) _ (rw (some_symbols e) short)
       ∙ then_takes (numbers_exact 0 (4 + E) (omega arith) (length (symbols_of e))) _ (symbols_of e) r (refl, range_names E e ∙ below)
-      ∙ rw ((expr_of_iff (symbols_of e) e).1 refl, IsSmall, q)
+      ∙ rw ((expr_of_iff (symbols_of e) e).1 refl, small, q)
 
   -- the symbols l, read before r
   module _ (l r s : List ℕ) (p : s ≡ ahead (length l ∷ l) r) (short : leb (length l) most_symbols ≡ true)
@@ -108,12 +108,12 @@ module _ (E : ℕ) (h : E ≤ most_elements) where
         symbols = (expr_of_iff l e).0 q
 
         formed : leb (count e) most_names ≡ true → formed_model E e ≡ true
-        formed IsSmall = rw (symbols, short, ← range_names E e, symbols, in_range) IsSmall
+        formed small = rw (symbols, short, ← range_names E e, symbols, in_range) small
 
         by : (a b : Bool) → leb (count e) most_names ≡ a → ambiguous e ≡ b
             → Ends (Fit 2) body_of (Stuck 2) s (cond a (cond b (refuse 3) (pure (model e))) (refuse 2) r)
-        by true true IsSmall amb = met (refl, record { e = e; rest = r; formed = formed IsSmall; tangled = amb; begins = rw symbols p })
-        by true false IsSmall amb = took (model e) r (rw symbols p) (refl, rw (formed IsSmall, amb))
+        by true true small amb = met (refl, record { e = e; rest = r; formed = formed small; tangled = amb; begins = rw symbols p })
+        by true false small amb = took (model e) r (rw symbols p) (refl, rw (formed small, amb))
         by false b large amb = failed 2 (λ z. omega arith)
 
   models_exact : Contents 2

@@ -74,11 +74,11 @@ module _ (n low : ℕ) (had : Bool) (met : ℕ) (others : (low : ℕ) (had : Boo
   number_of = number_exact low (most_attributes - 1) (omega arith)
 
   status_of : (k : ℕ) → Exact (number 0 (most_status k met)) (λ s. leb s (most_status k met) ≡ true) (λ s. s ∷ []) Nowhere
-  status_of k = upto_exact (most_status k met) (IsSmall (eqb k 0 && ltb met most_fixed))
+  status_of k = upto_exact (most_status k met) (small (eqb k 0 && ltb met most_fixed))
     where
-      IsSmall : (b : Bool) → cond b 2 1 ≤ largest
-      IsSmall true = omega arith
-      IsSmall false = omega arith
+      small : (b : Bool) → cond b 2 1 ≤ largest
+      small true = omega arith
+      small false = omega arith
 
   -- the rest, behind an attribute of kind k and status s
   rest_of : (a k s : ℕ) → Attributes n (suc a) (had || eqb k 1) (met + cond (eqb s 2) 1 0)

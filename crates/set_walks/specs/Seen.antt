@@ -10,7 +10,7 @@ use Rattle.paper.specs.Table.{chosen}
 use Rattle.paper_laws.specs.Words.{bit_of_or, bit_zero, bit_one}
 use Rattle.basic_laws.specs.Numbers.{eqb_sym}
 use Rattle.sets.specs.Lowest.{cleared, turn}
-use Rattle.sets.specs.Chosen.{IsSmall, chosen_none, chosen_cleared}
+use Rattle.sets.specs.Chosen.{small, chosen_none, chosen_cleared}
 
 -- no number of the list is a member of `seen`, and none stands twice
 abbrev pub unseen : ℕ → List ℕ → Bool
@@ -54,10 +54,10 @@ unseen_none l = parts 0 l ∙ ap (λ b. b && distinct l) (none l)
 -- the names of `rest` are below 64, and the answer is whether they are unseen
 pub record Seeing (names : List ℕ) (answer : Bool) (rest seen : ℕ) : Type 0 where
   pub fits : rest < 2 ^ 64
-  pub low : IsSmall (chosen rest names) ≡ true
+  pub low : small (chosen rest names) ≡ true
   pub same : unseen seen (chosen rest names) ≡ answer
 
-pub none_seen : (names : List ℕ) (set : ℕ) → set < 2 ^ 64 → IsSmall (chosen set names) ≡ true → Seeing names (distinct (chosen set names)) set 0
+pub none_seen : (names : List ℕ) (set : ℕ) → set < 2 ^ 64 → small (chosen set names) ≡ true → Seeing names (distinct (chosen set names)) set 0
 none_seen names set h e = record { fits = h; low = e; same = unseen_none (chosen set names) }
 
 module _ (names : List ℕ) (answer : Bool) (rest seen : ℕ) (s : Seeing names answer rest seen) where
@@ -71,8 +71,8 @@ module _ (names : List ℕ) (answer : Bool) (rest seen : ℕ) (s : Seeing names 
     next : chosen rest names ≡ name ∷ chosen (cleared rest) names
     next = chosen_cleared 64 rest s.fits (omega arith) names long
 
-    lows : (ltb name 64 ≡ true) × (IsSmall (chosen (cleared rest) names) ≡ true)
-    lows = (and-eq-true_iff (ltb name 64) (IsSmall (chosen (cleared rest) names))).0 (sym (ap IsSmall next) ∙ s.low)
+    lows : (ltb name 64 ≡ true) × (small (chosen (cleared rest) names) ≡ true)
+    lows = (and-eq-true_iff (ltb name 64) (small (chosen (cleared rest) names))).0 (sym (ap small next) ∙ s.low)
 
     sames : (not (bit seen name) && unseen (bit_or seen (2 ^ name)) (chosen (cleared rest) names)) ≡ answer
     sames = sym (ap (unseen seen) next) ∙ s.same

@@ -7,7 +7,7 @@
 ghost use Rattle.std.specs.Prelude.{◌≡◌, true, length};
 ghost use Rattle.paper.specs.Basics.{distinct};
 ghost use Rattle.paper.specs.Table.{chosen};
-ghost use Rattle.sets.specs.Chosen.{IsSmall};
+ghost use Rattle.sets.specs.Chosen.{small};
 ghost use Rattle.set_walks.specs.Joined.{joined};
 ghost use Rattle.set_walks.specs.Named.{next_named};
 
@@ -28,7 +28,7 @@ pub fn connect(follow: &mut [u64], from: u64, to: u64)
 
 // No two members have one name. The names of members are below 64, so a word holds those that were seen.
 pub fn one_each(set: u64, names: &[u64]) -> bool
-    requires { (length names.now ≡ 64) × (IsSmall (chosen set names.now) ≡ true) }
+    requires { (length names.now ≡ 64) × (small (chosen set names.now) ≡ true) }
     ensures { result ≡ distinct (chosen set names.now) }
 {
     let mut rest = set;

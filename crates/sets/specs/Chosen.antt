@@ -38,20 +38,20 @@ chosen_take (suc n) w (x ∷ l) h = ap (cons_if (eqb (w % 2) 1) x) (chosen_take 
 -- ---- names below 64
 
 -- each number is below 64
-abbrev pub IsSmall : List ℕ → Bool
-IsSmall l = all (λ a. ltb a 64) l
+abbrev pub small : List ℕ → Bool
+small l = all (λ a. ltb a 64) l
 
 -- .. where the first n names are, and the set is of the first n
-pub chosen_small : (n E w : ℕ) (l : List ℕ) → w < 2 ^ n → E ≤ 64 → all (λ a. ltb a E) (take n l) ≡ true → IsSmall (chosen w l) ≡ true
-chosen_small n E w l h s e = ap IsSmall (sym (chosen_take n w l h)) ∙ go w (take n l) e
+pub chosen_small : (n E w : ℕ) (l : List ℕ) → w < 2 ^ n → E ≤ 64 → all (λ a. ltb a E) (take n l) ≡ true → small (chosen w l) ≡ true
+chosen_small n E w l h s e = ap small (sym (chosen_take n w l h)) ∙ go w (take n l) e
   where
-    go : (w : ℕ) (l : List ℕ) → all (λ a. ltb a E) l ≡ true → IsSmall (chosen w l) ≡ true
+    go : (w : ℕ) (l : List ℕ) → all (λ a. ltb a E) l ≡ true → small (chosen w l) ≡ true
     go w [] e = refl
     go w (x ∷ l) e =
         let (a, b) = (and-eq-true_iff (ltb x E) (all (λ a. ltb a E) l)).0 e in
         let i : x < E = ltb-true x E a in
         keep (eqb (w % 2) 1) (chosen (w / 2) l) (lt-ltb x 64 (omega arith)) (go (w / 2) l b)
       where
-        keep : (b : Bool) (m : List ℕ) → ltb x 64 ≡ true → IsSmall m ≡ true → IsSmall (cons_if b x m) ≡ true
+        keep : (b : Bool) (m : List ℕ) → ltb x 64 ≡ true → small m ≡ true → small (cons_if b x m) ≡ true
         keep true m p q = rw p q
         keep false m p q = q

@@ -79,7 +79,7 @@ cleared_lt w p = omega (arith, and_le_r w (w - 1))
 
 pub record Turn (n w : ℕ) : Type 0 where
   pub there : bit w (count_trailing_zeros n w) ≡ true
-  pub IsSmall : count_trailing_zeros n w < n
+  pub small : count_trailing_zeros n w < n
   pub less : cleared w < w
   pub fits : cleared w < 2 ^ n
   pub kept : (j : ℕ) → bit (cleared w) j ≡ true → bit w j ≡ true
@@ -91,7 +91,7 @@ turn n w h z =
     let l : cleared w < w = cleared_lt w p in
     record {
       there = trailing_there n w h p;
-      IsSmall = bit_below n w (count_trailing_zeros n w) h (trailing_there n w h p);
+      small = bit_below n w (count_trailing_zeros n w) h (trailing_there n w h p);
       less = l;
       fits = omega arith;
       kept = λ j m. ((and-eq-true_iff (bit w j) (not (eqb j (count_trailing_zeros n w)))).0 (sym (bit_cleared n w h p j) ∙ m)).0;

@@ -65,7 +65,7 @@ pub record Scanning (buf : List ℕ) (used i : ℕ) (s : Scan) : Type 0 where
   pub phase : Phase
   pub next : s.next ≡ next_of phase
   pub least : s.least ≡ least_of phase
-  pub IsSmall : s.least ≤ most_number + 1
+  pub small : s.least ≤ most_number + 1
   pub left : element (toks (take used buf)) ≡ rest phase s.level (drop i (toks (take used buf)))
 
 pub scan_none : (buf : List ℕ) (used : ℕ) → used ≡ 0 → false ≡ element (toks (take used buf))
@@ -85,7 +85,7 @@ module _ (buf : List ℕ) (used : ℕ) (a : used ≡ 0 → ⊥) (b : used ≤ le
     phase = Head;
     next = refl;
     least = refl;
-    IsSmall = omega arith;
+    small = omega arith;
     left = ap element (whole ∙ ap (λ t. t ∷ drop 1 (toks (take used buf))) ((start_iff (get_or buf 0 0)).0 (sym ey ∙ not-false y n))) ∙ element_rest _ _;
   }
 
@@ -137,7 +137,7 @@ module _ (buf : List ℕ) (used i : ℕ) (s : Scan) (c : Scanning buf used i s) 
           phase = phase_of p (tok_of t);
           next = told.0;
           least = rw c.least told.1;
-          IsSmall = stays_small s.least (t / 8) (t % 8) sort c.IsSmall (ltb-true (t / 8) (numbers (t % 8)) (has_number p (t % 8) (t / 8) sort ok));
+          small = stays_small s.least (t / 8) (t % 8) sort c.small (ltb-true (t / 8) (numbers (t % 8)) (has_number p (t % 8) (t / 8) sort ok));
           left = c.left ∙ rw (rest_next buf used i h l, add-one)
               (rest_passed p (t % 8) (t / 8) sort ok s.level (drop (suc i) (toks (take used buf))) low high);
         })

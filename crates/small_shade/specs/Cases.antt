@@ -1,4 +1,4 @@
--- "The IsSmall shade": the cases marked P and the four models, as one list, and one statement over it. Item 1: "In document 01, remove
+-- "The small shade": the cases marked P and the four models, as one list, and one statement over it. Item 1: "In document 01, remove
 -- at 7 becomes done with length 14." Item 3: "Document 01's cases change: remove at 3, and insert of the use at 3, both give 9 at 3."
 -- Assumes nothing.
 use Rattle.std.specs.Prelude.{◌≡◌, refl, Bool, true, false, ◌&&◌, List, [], ◌∷◌, ℕ, zero, suc, eqb}

@@ -45,7 +45,7 @@ module _ (E : ℕ) where
       go : (a b : Bool) → leb (count d) most_names ≡ a → ambiguous d ≡ b → cond a (cond b (refuse 3) (pure (model d))) (refuse 2) s ≡ ok c r → Good x
       go true false p u e =
           let same : d ≡ x = cc in
-          subst Good same (record { fine = record { IsSmall = leb-true (count d) most_names p; unambiguous = u }; below = sym (range_names E d) ∙ rw ((expr_of_iff l d).0 w) h })
+          subst Good same (record { fine = record { small = leb-true (count d) most_names p; unambiguous = u }; below = sym (range_names E d) ∙ rw ((expr_of_iff l d).0 w) h })
       go true true p u e = never_stop e
       go false b p u e = never_stop e
 

@@ -34,7 +34,7 @@ set_bit P (y ∷ l) a = rw (bit_of_or, bit_when, bit_one, set_bit P l a)
 
 -- a model that the translator takes
 pub record Fine (e : Expr) : Type 0 where
-  pub IsSmall : count e ≤ most_names
+  pub small : count e ≤ most_names
   pub unambiguous : ambiguous e ≡ false
 
 pub not_ambiguous : {e : Expr} → Fine e → ¬ Ambiguous e
@@ -56,7 +56,7 @@ module _ (l : List Attribute) (e : Expr) (fine : Fine e) where
   b = block_of (record { content = model e; attributes = l })
 
   names_long : length (names e) ≤ most_names
-  names_long = let h = fine.IsSmall in omega (arith, length_names e)
+  names_long = let h = fine.small in omega (arith, length_names e)
 
   name_at_lem : (k : ℕ) → k < count e → cell b (names_at + k) ≡ name_at e k
   name_at_lem k h =
@@ -117,7 +117,7 @@ module _ (l : List Attribute) (e : Expr) (fine : Fine e) where
       back : matches e w ≡ true → accepts e w ≡ true
       back t = (true_iff (accepts e w)).1 ((accepts_iff e (not_ambiguous fine) w).1 ((matches_iff e w).0 ((true_iff (matches e w)).0 t)))
 
-  -- and it goes on exactly while a list that the expression Describes begins so: each occurrence can be continued to a match
+  -- and it goes on exactly while a list that the expression describes begins so: each occurrence can be continued to a match
   pub goes_begins : (w : List ℕ) → goes_on (run_from b start w) ≡ begins e w
   goes_begins w = ap goes_on (run_same start tt w) ∙ same_test (goes_on (run e start w)) (begins e w) there back
     where

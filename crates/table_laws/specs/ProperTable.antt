@@ -66,11 +66,11 @@ module _ (E : ℕ) (l : List Attribute) (e : Expr) (g : Good E e) where
   abbrev Z : List ℕ
   Z = replicate (most_names - length (names e)) 0
 
-  IsSmall : n ≤ most_names
-  IsSmall = g.fine.IsSmall
+  small : n ≤ most_names
+  small = g.fine.small
 
   long_names : length (names e) ≤ most_names
-  long_names = omega (arith, length_names e, IsSmall)
+  long_names = omega (arith, length_names e, small)
 
   long_M : length M ≡ n
   long_M = length-map (from 0 n) (follow_word 0 e) ∙ length_from 0 n
@@ -104,7 +104,7 @@ module _ (E : ℕ) (l : List Attribute) (e : Expr) (g : Good E e) where
   model_proper =
       let inside : 0 + n ≤ n = omega arith in
       both (both (both (both (both (both (both
-      (both (le-leb 1 n (count_some e)) (le-leb n most_names IsSmall))
+      (both (le-leb 1 n (count_some e)) (le-leb n most_names small))
       (flag_low (nullable e)))
       (next_proper (first_word 0 e) (first_fits 0 e n inside) (first_free e g.fine)))
       (lt-ltb (last_word 0 e) (2 ^ n) (last_fits 0 e n inside)))

@@ -36,8 +36,8 @@ length_content empty h = length-replicate {A = ℕ} 132 0
 length_content text h = length-replicate {A = ℕ} 132 0
 length_content (model e) h =
     let f = h e refl in
-    let p : length (names e) ≤ most_names = let s = f.IsSmall in omega (arith, length_names e) in
-    let n : length (map (follow_word 0 e) (from 0 (count e))) ≤ most_names = let s = f.IsSmall in omega (arith, length-map (from 0 (count e)) (follow_word 0 e), length_from 0 (count e)) in
+    let p : length (names e) ≤ most_names = let s = f.small in omega (arith, length_names e) in
+    let n : length (map (follow_word 0 e) (from 0 (count e))) ≤ most_names = let s = f.small in omega (arith, length-map (from 0 (count e)) (follow_word 0 e), length_from 0 (count e)) in
     let q = length-append (pad most_names (names e)) (pad most_names (map (follow_word 0 e) (from 0 (count e)))) in
     omega (arith, q, length_pad most_names (names e) p, length_pad most_names (map (follow_word 0 e) (from 0 (count e))) n)
 
@@ -187,7 +187,7 @@ module _ (s : Schema) (f : FineAll s.elements) (few : length s.elements ≤ most
     elements = length s.elements;
     root = s.root;
     kind = λ e. kind_same e i;
-    Describes = λ e w. describes_same e w i;
+    describes = λ e w. describes_same e w i;
     begins = λ e w. begins_same e w i;
     allowed = λ e a. set_same allowed_at (λ y. true) (λ x. refl) e a i;
     required = λ e a. set_same required_at is_required (λ x. refl) e a i;

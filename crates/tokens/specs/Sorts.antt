@@ -62,18 +62,18 @@ by_sort_lem P a b c d e f g h (suc (suc (suc (suc (suc (suc (suc (suc s)))))))) 
 
 -- a test that holds of one sort alone, and of neither ends nor what is no token
 module _ (P : Tok → Bool) (bad : P Bad ≡ false) where
-  IsSmall : (b c : Bool) (t : Tok) → c ≡ P t → c && b ≡ P (cond b t Bad)
-  IsSmall true true t e = e
-  IsSmall true false t e = e
-  IsSmall false true t e = sym bad
-  IsSmall false false t e = sym bad
+  small : (b c : Bool) (t : Tok) → c ≡ P t → c && b ≡ P (cond b t Bad)
+  small true true t e = e
+  small true false t e = e
+  small false true t e = sym bad
+  small false false t e = sym bad
 
   no_end : P End ≡ false → (b : Bool) → false ≡ P (cond b End Bad)
   no_end e true = sym e
   no_end e false = sym bad
 
   word : (sort t : ℕ) → ((s : ℕ) → s < 8 → eqb s sort ≡ P (by_sort s (t / 8))) → of_sort sort t ≡ P (tok_of t)
-  word sort t each = IsSmall (leb (t / 8) most_number) (eqb (t % 8) sort) (by_sort (t % 8) (t / 8)) (each (t % 8) (omega arith))
+  word sort t each = small (leb (t / 8) most_number) (eqb (t % 8) sort) (by_sort (t % 8) (t / 8)) (each (t % 8) (omega arith))
 
 module _ (t : ℕ) {y : Bool} where
   pub start_word : y ≡ of_sort 1 t → y ≡ starts (tok_of t)

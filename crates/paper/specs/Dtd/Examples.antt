@@ -6,9 +6,9 @@ use Rattle.paper.specs.Dtd.Reading.{reading}
 use Rattle.paper.specs.Dtd.Imported.{declared, import, names, spot}
 
 -- the smallest text
-IsSmall : import (ascii "<!ELEMENT a EMPTY>") (9 ∷ 9 ∷ 9 ∷ 9 ∷ 9 ∷ 9 ∷ []) ≡ record { number = 0; count = 4; buffer = 1 ∷ 0 ∷ 0 ∷ 0 ∷ 9 ∷ 9 ∷ [] }
+small : import (ascii "<!ELEMENT a EMPTY>") (9 ∷ 9 ∷ 9 ∷ 9 ∷ 9 ∷ 9 ∷ []) ≡ record { number = 0; count = 4; buffer = 1 ∷ 0 ∷ 0 ∷ 0 ∷ 9 ∷ 9 ∷ [] }
 unfolding reading declared import bytes_of
-IsSmall = refl
+small = refl
 
 -- "`(a,b,c)` is a and then the pair b, c": `0 a 0 b c`
 triple : import (ascii "<!ELEMENT a (a,b,c)><!ELEMENT b EMPTY><!ELEMENT c (#PCDATA)>") (9 ∷ 9 ∷ 9 ∷ 9 ∷ 9 ∷ 9 ∷ 9 ∷ 9 ∷ 9 ∷ 9 ∷ 9 ∷ 9 ∷ 9 ∷ 9 ∷ 9 ∷ 9 ∷ []) ≡ record { number = 0; count = 14; buffer = 3 ∷ 0 ∷ 2 ∷ 5 ∷ 0 ∷ 5 ∷ 0 ∷ 6 ∷ 7 ∷ 0 ∷ 0 ∷ 0 ∷ 1 ∷ 0 ∷ 9 ∷ 9 ∷ [] }

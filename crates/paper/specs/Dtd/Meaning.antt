@@ -1,4 +1,4 @@
--- Which children a model of the text Describes, over names and with brackets of any number of parts (XML 1.0, section 3.2.1).
+-- Which children a model of the text describes, over names and with brackets of any number of parts (XML 1.0, section 3.2.1).
 -- Assumes nothing.
 use Rattle.std.specs.Prelude.{◌≡◌, ◌⊎◌, List, [], ◌∷◌, ◌++◌}
 use Rattle.paper.specs.Dtd.Letters.{Name}

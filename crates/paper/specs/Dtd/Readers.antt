@@ -46,7 +46,7 @@ module _ {A : Type 0} where
   abbrev pub tested : ℕ → (A → Bool) → Reader A → Reader A
   tested k P m s = onward (m s) (λ a r. cond (P a) (ok a r) (stop k s))
 
-  -- Recursion goes by a bound that falls with every byte; more than the text's length is never too IsSmall.
+  -- Recursion goes by a bound that falls with every byte; more than the text's length is never too small.
   abbrev pub bounded : (ℕ → Reader A) → Reader A
   bounded m s = m (suc (length s)) s
 
