@@ -55,23 +55,23 @@ REQUIRED = {
     'translate': {0, 1, 2, 3, 13},
     'compare': {'no', 5, 6, 13, 16},
     'compare, few names': {'yes', 'no'},
-    'schemaOf': {0, 1, 2, 3},
+    'schema_of': {0, 1, 2, 3},
     'proper': {0, 1},
     'check': {0, 4, 8, 9, 10, 11, 12, 13},
     'checking': {0, 4, 8, 9, 10, 11, 12},
-    'checkedCounts': {0, 4, 8, 9, 10, 11, 12, 13},
+    'checked_counts': {0, 4, 8, 9, 10, 11, 12, 13},
     'edit insert': ALL,
     'edit remove': ALL,
     'edit replace': ALL,
     'edit set': ALL,
     'edit drop': ALL,
     'edit other': {4, 6, 13},
-    'editBy insert': ALL - {13},
-    'editBy remove': ALL - {13},
-    'editBy replace': ALL - {13},
-    'editBy set': ALL - {13},
-    'editBy drop': ALL - {13},
-    'editBy other': {4, 6},
+    'edit_by insert': ALL - {13},
+    'edit_by remove': ALL - {13},
+    'edit_by replace': ALL - {13},
+    'edit_by set': ALL - {13},
+    'edit_by drop': ALL - {13},
+    'edit_by other': {4, 6},
     'check, own table': {0, 4, 8, 9, 10, 11, 12},
     'edit, own table': ALL - {13},
     '(valid before)': ALL - {7, 13},
@@ -148,21 +148,16 @@ def request(operation, place, piece):
 
 
 SAME = '''-- How an answer of the definitions is compared with the expected one.
-use mathlib.Core.Bool.{Bool, true, false, not, _&&_}
-use mathlib.Core.Option.{Option, none, some}
-use mathlib.Core.List.{List, [], _∷_, _++_}
-use Prim.Native.Nat.{ℕ, zero, suc}
-use lib.Dec.{eqb}
-use lib.IntN.{ℤ, pos, negsuc}
-use lib.ListN.{replicate}
-use Rattle·paper.specs.Basics.{all, concat}
-use Rattle·paper.specs.Inclusion.{Compared}
-use Rattle·paper.specs.Dtd.Imported.{Spot}
-use Rattle·paper.specs.Files.{Counted}
-use Rattle·paper.specs.Schema.{Schema, Parsed, stop, ok}
-use Rattle·paper.specs.Edits.{Request, Outcome}
-use Rattle·paper.specs.Lists.{Listed}
-use Rattle·paper.specs.Groups.{GroupOutcome}
+use Rattle.std.specs.Prelude.{Bool, true, false, not, ◌&&◌, List, [], ◌∷◌, ◌++◌, ℕ, zero, suc, eqb, ℤ, pos, negsuc, replicate}
+use Rattle.std.proofs.Math.Option.{Option, none, some}
+use Rattle.paper.specs.Basics.{all, concat}
+use Rattle.paper.specs.Inclusion.{Compared}
+use Rattle.paper.specs.Dtd.Imported.{Spot}
+use Rattle.paper.specs.Files.{Counted}
+use Rattle.paper.specs.Schema.{Schema, Parsed, stop, ok}
+use Rattle.paper.specs.Edits.{Request, Outcome}
+use Rattle.paper.specs.Lists.{Listed}
+use Rattle.paper.specs.Groups.{GroupOutcome}
 
 abbrev pub same : List ℕ → List ℕ → Bool
 same [] [] = true
@@ -170,17 +165,17 @@ same [] (b ∷ m) = false
 same (a ∷ l) [] = false
 same (a ∷ l) (b ∷ m) = eqb a b && same l m
 
-abbrev pub sameChange : ℤ → ℤ → Bool
-sameChange (pos m) (pos n) = eqb m n
-sameChange (pos m) (negsuc n) = false
-sameChange (negsuc m) (pos n) = false
-sameChange (negsuc m) (negsuc n) = eqb m n
+abbrev pub same_change : ℤ → ℤ → Bool
+same_change (pos m) (pos n) = eqb m n
+same_change (pos m) (negsuc n) = false
+same_change (negsuc m) (pos n) = false
+same_change (negsuc m) (negsuc n) = eqb m n
 
-abbrev pub sameCounts : List ℤ → List ℤ → Bool
-sameCounts [] [] = true
-sameCounts [] (b ∷ m) = false
-sameCounts (a ∷ l) [] = false
-sameCounts (a ∷ l) (b ∷ m) = sameChange a b && sameCounts l m
+abbrev pub same_counts : List ℤ → List ℤ → Bool
+same_counts [] [] = true
+same_counts [] (b ∷ m) = false
+same_counts (a ∷ l) [] = false
+same_counts (a ∷ l) (b ∷ m) = same_change a b && same_counts l m
 
 module _ {A : Type 0} where
   abbrev pub repeat : ℕ → List A → List A
@@ -190,67 +185,61 @@ abbrev pub asked : ℕ → ℕ → List ℕ → Request
 asked op at p = record { operation = op; place = at; piece = p }
 
 abbrev pub counts : Counted → ℕ → ℕ → List ℕ → Bool
-counts c n k b = eqb (c .number) n && eqb (c .count) k && same (c .buffer) b
+counts c n k b = eqb c.number n && eqb c.count k && same c.buffer b
 
 abbrev pub spotted : Spot → ℕ → ℕ → Bool
-spotted s n k = eqb (s .number) n && eqb (s .offset) k
+spotted s n k = eqb s.number n && eqb s.offset k
 
 abbrev pub told : Compared → ℕ → ℕ → ℕ → List ℕ → Bool
-told c n t k b = eqb (c .number) n && eqb (c .takesAll) t && eqb (c .len) k && same (c .buffer) b
+told c n t k b = eqb c.number n && eqb c.takes_all t && eqb c.len k && same c.buffer b
 
-abbrev pub sameFound : Option (List ℕ) → Option (List ℕ) → Bool
-sameFound none none = true
-sameFound none (some v) = false
-sameFound (some w) none = false
-sameFound (some w) (some v) = same w v
+abbrev pub same_found : Option (List ℕ) → Option (List ℕ) → Bool
+same_found none none = true
+same_found none (some v) = false
+same_found (some w) none = false
+same_found (some w) (some v) = same w v
 
 abbrev pub answers : ℕ × ℕ → ℕ → ℕ → Bool
-answers a n p = eqb (a .0) n && eqb (a .1) p
+answers a n p = eqb a.0 n && eqb a.1 p
 
 abbrev pub tables : ℕ × List ℕ → ℕ → List ℕ → Bool
-tables a n t = eqb (a .0) n && same (a .1) t
+tables a n t = eqb a.0 n && same a.1 t
 
 abbrev pub results : Outcome → ℕ → ℕ → ℕ → ℤ → ℕ → List ℕ → List ℕ → List ℤ → Bool
-results o n p u c k b s m = eqb (o .number) n && eqb (o .place) p && eqb (o .used) u && sameChange (o .change) c && eqb (o .children) k && same (o .buffer) b && same (o .back) s && sameCounts (o .counts) m
+results o n p u c k b s m = eqb o.number n && eqb o.place p && eqb o.used u && same_change o.change c && eqb o.children k && same o.buffer b && same o.back s && same_counts o.counts m
 
 abbrev pub lists : Listed Outcome → ℕ → ℕ → ℕ → ℕ → ℤ → ℕ → List ℕ → List ℤ → Bool
-lists l d n p u c k b m = eqb (l .done) d && results (l .last) n p u c k b [] m
+lists l d n p u c k b m = eqb l.done d && results l.last n p u c k b [] m
 
 abbrev pub groups : GroupOutcome → ℕ → ℕ → ℕ → ℤ → ℕ → List ℕ → List ℕ → Bool
-groups o n p u c w b s = eqb (o .number) n && eqb (o .place) p && eqb (o .used) u && sameChange (o .change) c && eqb (o .which) w && same (o .buffer) b && same (o .second) s
+groups o n p u c w b s = eqb o.number n && eqb o.place p && eqb o.used u && same_change o.change c && eqb o.which w && same o.buffer b && same o.second s
 
 abbrev pub each : List Bool → Bool
 each l = all (λ b. b) l
 
-abbrev pub with-schema : Parsed Schema → (Schema → List Bool) → Bool
-with-schema (stop n) f = false
-with-schema (ok s r) f = each (f s)
+abbrev pub with_schema : Parsed Schema → (Schema → List Bool) → Bool
+with_schema (stop n) f = false
+with_schema (ok s r) f = each (f s)
 '''
 
 HEAD = '''-- Computed equations, written by compare.py.
-use mathlib.Core.Path.{_≡_, refl}
-use mathlib.Core.Bool.{Bool, true, false, not, _&&_}
-use mathlib.Core.Option.{none, some}
-use mathlib.Core.List.{List, [], _∷_, _++_}
-use Prim.Native.Nat.{ℕ, zero, suc, _/_, _%_}
-use lib.Dec.{eqb}
-use lib.IntN.{ℤ, pos, negsuc}
-use lib.ListN.{replicate}
-use Rattle·cases·specs.specs.Same.{same, sameChange, sameCounts, sameFound, repeat, asked, counts, spotted, told, answers, tables, results, lists, groups, each, with-schema}
-use Rattle·paper.specs.Files.{Counted, read, write}
-use Rattle·paper.specs.Schema.{Schema, Parsed, stop, ok, schemaOf, refusalOf}
-use Rattle·paper.specs.Table.{tableOf, translate, proper}
-use Rattle·paper.specs.Rules.{ofSchema, ofTable}
-use Rattle·paper.specs.Inclusion.{Compared, lost, shortestOf, compare}
-use Rattle·paper.specs.Dtd.Reading.{reading}
-use Rattle·paper.specs.Dtd.Imported.{Spot, declared, import, names, spot}
-use Rattle·paper.specs.Judgement.{checking, check}
-use Rattle·paper.specs.Counts.{checkedCounts, elementsOf}
-use Rattle·paper.specs.Edits.{Request, Outcome, outcome, editBy, edit}
-use Rattle·paper.specs.Lists.{Listed, editList}
-use Rattle·paper.specs.Groups.{GroupOutcome, group}
-use Rattle·paper.specs.Program.{printed}
-use Rattle·paper.specs.Open.{all-open}
+use Rattle.std.specs.Prelude.{◌≡◌, refl, Bool, true, false, not, ◌&&◌, List, [], ◌∷◌, ◌++◌, ℕ, zero, suc, ◌/◌, ◌%◌, eqb, ℤ, pos, negsuc, replicate}
+use Rattle.std.proofs.Math.Option.{none, some}
+use Rattle.cases.specs.Same.{same, same_change, same_counts, same_found, repeat, asked, counts, spotted, told, answers, tables, results, lists, groups, each, with_schema}
+use Rattle.paper.specs.Files.{Counted, read, write}
+use Rattle.paper.specs.Schema.{Schema, Parsed, stop, ok, schema_of, refusal_of}
+use Rattle.paper.specs.Table.{table_of, translate, proper}
+use Rattle.paper.specs.Rules.{of_schema, of_table}
+use Rattle.paper.specs.Inclusion.{Compared, lost, shortest_of, compare}
+use Rattle.paper.specs.Dtd.Reading.{reading}
+use Rattle.paper.specs.Dtd.Imported.{Spot, declared, import, names, spot}
+use Rattle.paper.specs.Judgement.{checking, check}
+use Rattle.paper.specs.Counts.{checked_counts, elements_of}
+use Rattle.paper.specs.Edits.{Request, Outcome, outcome, edit_by, edit}
+use Rattle.paper.specs.Lists.{Listed, edit_list}
+use Rattle.paper.specs.Groups.{GroupOutcome, group}
+use Rattle.paper.specs.Program.{printed}
+use Rattle.paper.specs.Open.{all_open}
 '''
 
 
@@ -901,8 +890,8 @@ def compare_case(old, new, element, room):
                           [('number', '(%s) .number' % call, 5), ('length', '(%s) .len' % call, 13)]))
     if number == 0 and (takes_all or length < 4):
         found = 'none' if takes_all else '(some %s)' % term(after[:length])
-        few = 'shortestOf 4 %d (lost (ofTable %s) (ofTable %s) %d)' % (old[0], term(old), term(new), element)
-        terms.append(Term('compare, few names', 'yes' if takes_all else 'no', 'sameFound (%s) %s' % (few, found), 1000))
+        few = 'shortest_of 4 %d (lost (of_table %s) (of_table %s) %d)' % (old[0], term(old), term(new), element)
+        terms.append(Term('compare, few names', 'yes' if takes_all else 'no', 'same_found (%s) %s' % (few, found), 1000))
     return Case(terms, told(call='compare', old=term(old), new=term(new), element=element, room=room,
                             expected=(number, takes_all, after[:length])))
 
@@ -916,8 +905,8 @@ def translate_case(file, table):
     weight = 8 * len(file) if number in (0, 3) else len(file)
     terms = [Term('translate', number, holds, weight, probes)]
     if len(table) == TABLE:
-        call = 'refusalOf (schemaOf %s)' % term(file)
-        terms.append(Term('schemaOf', number, 'eqb (%s) %d' % (call, number), weight, [('number', call, 4)]))
+        call = 'refusal_of (schema_of %s)' % term(file)
+        terms.append(Term('schema_of', number, 'eqb (%s) %d' % (call, number), weight, [('number', call, 4)]))
     return Case(terms, told(call='translate', file=file, table_length=len(table), expected=number))
 
 
@@ -942,11 +931,11 @@ def check_case(context, buffer, used, counts=None):
                            ('place', '(%s) .1' % call, 14)]))
 
     add('check, own table' if own and context.good else 'check', 'check table %s %d' % (term(buffer), used))
-    call = 'checkedCounts table %s %d %s' % (term(buffer), used, integers(counts))
-    terms.append(Term('checkedCounts', number, 'sameCounts (%s) %s' % (call, integers(counted)), len(buffer)))
+    call = 'checked_counts table %s %d %s' % (term(buffer), used, integers(counts))
+    terms.append(Term('checked_counts', number, 'same_counts (%s) %s' % (call, integers(counted)), len(buffer)))
     if not own:
         agree('check', (number, place, counted), ref.check_counts_by_schema(context.schema, buffer, used, counts))
-        add('checking', 'checking (ofSchema s) %s %d' % (term(buffer), used))
+        add('checking', 'checking (of_schema s) %s %d' % (term(buffer), used))
     lines = 'check %d | %s | %s' % (used, plain(buffer), plain(counts)), '%d %d | %s' % (number, place, plain(counted))
     return Case(terms, told(call='check', buffer=buffer, used=used, counts=counts, expected=(number, place, counted)), lines=lines)
 
@@ -978,18 +967,18 @@ def edit_case(context, buffer, used, operation, place, piece, second=None, count
         probes = [('number', '(%s) .number' % call, 4),
                   ('place', '(%s) .place' % call, 14),
                   ('used', '(%s) .used' % call, 14),
-                  ('change as expected', 'sameChange ((%s) .change) %s' % (call, signed(change)), None),
+                  ('change as expected', 'same_change ((%s) .change) %s' % (call, signed(change)), None),
                   ('children', '(%s) .children' % call, 14),
                   ('buffer as expected', 'same ((%s) .buffer) %s' % (call, term(after)), None),
                   ('second buffer as expected', 'same ((%s) .back) %s' % (call, term(back)), None),
-                  ('counts as expected', 'sameCounts ((%s) .counts) %s' % (call, integers(counted)), None)]
+                  ('counts as expected', 'same_counts ((%s) .counts) %s' % (call, integers(counted)), None)]
         terms.append(Term(name, number, 'results (%s) %s' % (call, wanted), len(buffer) + len(piece) + len(second), probes))
 
     parts = '%s %d %s %s %s' % (term(buffer), used, request(operation, place, piece), term(second), integers(counts))
     add('edit, own table' if own and context.good else 'edit ' + name, 'edit table ' + parts)
     if not own:
         agree('edit', answer, ref.edit_by_schema(context.schema, buffer, used, operation, place, piece, second, counts))
-        add('editBy ' + name, 'outcome %s %d %s %s (editBy (ofSchema s) %s)' %
+        add('edit_by ' + name, 'outcome %s %d %s %s (edit_by (of_schema s) %s)' %
             (term(buffer), used, term(second), integers(counts), parts))
     rows = []
     if context.good:
@@ -1052,15 +1041,15 @@ def list_case(context, buffer, used, numbers, counts=None):
     except ref.Refused as refused:
         name, rows = 'list, own fault', [('(list)', '257th begun' if refused.number == 5 else 'ends inside' if numbers else 'empty')]
     number, place, length, change, children, done, after, counted = answer
-    call = 'editList table %s %d %s %s' % (term(buffer), used, term(numbers), integers(counts))
+    call = 'edit_list table %s %d %s %s' % (term(buffer), used, term(numbers), integers(counts))
     holds = 'lists (%s) %d %d %d %d %s %d %s %s' % (call, done, number, place, length, signed(change), children, term(after),
                                                     integers(counted))
     last = '(%s) .last ' % call
     probes = [('number', last + '.number', 4), ('place', last + '.place', 14), ('used', last + '.used', 14),
               ('edits done', '(%s) .done' % call, 9), ('children', last + '.children', 14),
-              ('change as expected', 'sameChange (%s.change) %s' % (last, signed(change)), None),
+              ('change as expected', 'same_change (%s.change) %s' % (last, signed(change)), None),
               ('buffer as expected', 'same (%s.buffer) %s' % (last, term(after)), None),
-              ('counts as expected', 'sameCounts (%s.counts) %s' % (last, integers(counted)), None)]
+              ('counts as expected', 'same_counts (%s.counts) %s' % (last, integers(counted)), None)]
     terms = [Term(name, number, holds, (done + 1) * (len(buffer) + 50) + len(numbers), probes)]
     lines = ('list %d | %s | %s | %s' % (used, plain(buffer), plain(numbers), plain(counts)),
              '%s | %s | %s' % (plain(answer[:6]), plain(answer[6]), plain(answer[7])))
@@ -1095,7 +1084,7 @@ def group_case(context, buffer, used, numbers, second):
     holds = 'groups (%s) %d %d %d %s %d %s %s' % (call, number, place, length, signed(change), which, term(after), term(worked))
     probes = [('number', '(%s) .number' % call, 4), ('place', '(%s) .place' % call, 14), ('used', '(%s) .used' % call, 14),
               ('which edit', '(%s) .which' % call, 9),
-              ('change as expected', 'sameChange ((%s) .change) %s' % (call, signed(change)), None),
+              ('change as expected', 'same_change ((%s) .change) %s' % (call, signed(change)), None),
               ('buffer as expected', 'same ((%s) .buffer) %s' % (call, term(after)), None),
               ('second buffer as expected', 'same ((%s) .second) %s' % (call, term(worked)), None)]
     terms = [Term('group', number, holds, len(buffer) + len(second) + len(numbers), probes)]
@@ -1105,7 +1094,7 @@ def group_case(context, buffer, used, numbers, second):
 def elements_case(context, counts, name):
     number, count = ref.elements(context.table, counts, name)
     lines = 'elements %d | %s' % (name, plain(counts)), '%d %d' % (number, count)
-    call = 'elementsOf table %s %d' % (integers(counts), name)
+    call = 'elements_of table %s %d' % (integers(counts), name)
     probes = [('number', '(%s) .0' % call, 4), ('count', '(%s) .1' % call, 14)]
     terms = [Term('elements', number, 'answers (%s) %d %d' % (call, number, count), 100, probes)]
     return Case(terms, told(call='elements', counts=counts, name=name, expected=(number, count)), lines=lines)
@@ -1968,9 +1957,9 @@ class Cases:
                 self.text(number)
             elif call.startswith('compare'):
                 self.comparison(number)
-            elif call == 'schemaOf':
+            elif call == 'schema_of':
                 self.translate(number)
-            elif call in ('check', 'checking', 'checkedCounts'):
+            elif call in ('check', 'checking', 'checked_counts'):
                 self.check(number)
             elif call == 'check, own table':
                 self.check(number, self.own())
@@ -2001,7 +1990,7 @@ class Cases:
         ways = [(self.read, 5), (self.write, 4), (self.translate, 11), (self.proper, 5), (self.printed, 5),
                 (self.comparison, 5)]
         checks = sorted(REQUIRED['check'])
-        pairs = [(op, number) for op, name in OPERATIONS.items() for number in sorted(REQUIRED['editBy ' + name])]
+        pairs = [(op, number) for op, name in OPERATIONS.items() for number in sorted(REQUIRED['edit_by ' + name])]
         ways += [(self.run_back, 1), (self.listing, 8), (self.grouping, 6), (self.question, 2), (lambda: self.check(), 4), (lambda: self.check(r.choice(checks)), 10),
                  (lambda: self.check(r.choice([None, 0, 9]), self.own()), 6),
                  (lambda: self.edit(), 8), (lambda: self.edit(None, 0), 16),
@@ -2056,10 +2045,10 @@ def declared(name, context, holds):
     """One equation: all these Boolean terms are true."""
     lines = '\n    ∷ '.join(holds) + '\n    ∷ []'
     if context is not None and context.file is not None:
-        left = 'with-schema (schemaOf file) (λ s.\n    %s)' % lines
+        left = 'with_schema (schema_of file) (λ s.\n    %s)' % lines
     else:
         left = 'each (\n    %s)' % lines
-    return '\n%s : %s ≡ true\nunfolding all-open reading declared import names spot\n%s = refl\n' % (name, left, name)
+    return '\n%s : %s ≡ true\nunfolding all_open reading declared import names spot\n%s = refl\n' % (name, left, name)
 
 
 class Unchecked(Exception):
@@ -2101,7 +2090,7 @@ class Scratch:
                 text += declared(label, context, holds)
             self.put('crates/cases/specs/%s.antt' % name, text)
         environment = dict(os.environ, RT_JOBS='1')
-        done = subprocess.run(['rt', 'check'], cwd=self.folder, env=environment, stdout=subprocess.PIPE,
+        done = subprocess.run(['rt', 'check'], cwd=os.path.join(self.folder, 'crates', 'cases'), env=environment, stdout=subprocess.PIPE,
                               stderr=subprocess.STDOUT)
         output = done.stdout.decode('utf-8', 'replace')
         self.put('output.txt', output)
