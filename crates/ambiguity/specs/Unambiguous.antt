@@ -48,6 +48,7 @@ pub record Places (set n : ℕ) (names : List ℕ) (r : ℕ) : Type 0 where
 
 true_of : (b : Bool) → T b → b ≡ true
 true_of true t = refl
+true_of false t = elim t [ ]
 
 of_true : {b : Bool} → b ≡ true → T b
 of_true e = rw e tt

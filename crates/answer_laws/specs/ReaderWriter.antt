@@ -1,5 +1,6 @@
 -- Reader and writer: every answer is a number of the paper. Assumes nothing.
 use Rattle.std.specs.Prelude.{◌≡◌, refl, Bool, true, false, cond, ◌||◌, List, [], ◌∷◌, ℕ, zero, suc, min, T, leb, ltb, eqb, length}
+use Rattle.std.proofs.Common.{subst, sym}
 use Rattle.paper.specs.Basics.{most_tokens, all, elem}
 use Rattle.paper.specs.Files.{largest, Front, broken, got, front, file_of, Result, refused, made, Counted, counted, put, tokens_in, reading, writing, read, write}
 use Rattle.paper.specs.Answers.{Answers, reader_answers, writer_answers}
@@ -32,7 +33,7 @@ tokens_refuse (suc room) (b ∷ s) = go (front (b ∷ s)) (tokens_refuse room)
     go (got n r) h = put_refuses of_reader n (tokens_in room r) (h r)
 
 pub counted_answers : (l : List ℕ) (r : Result) (buffer : List ℕ) (o : Counted) → Refuses l r → o ≡ counted r buffer → Answers (0 ∷ l) o.number 0
-counted_answers l (refused k) buffer o h e = let n : o.number ≡ k = cc in record { one_of = rw n (or_right (eqb k 0) (elem k l) h); no_place = λ c. refl }
+counted_answers l (refused k) buffer o h e = let n : o.number ≡ k = cc in record { one_of = subst (λ x. T (elem x (0 ∷ l))) (sym n) (or_right (eqb k 0) (elem k l) h); no_place = λ c. refl }
   where
     or_right : (a b : Bool) → T b → T (a || b)
     or_right true b t = tt

@@ -114,6 +114,7 @@ translate_answers file table o e = by_length (eqb (length table) table_length) e
         go true b c d x t = tt
         go false true c d x t = tt
         go false false true d x t = tt
+        go false false false false x t = elim t [ ]
         go false false false true x t = tt
 
     by_file : (p : Parsed Schema) → Stops p → o ≡ translated p table → Answers translator_answers o.0 0

@@ -47,10 +47,10 @@ pub closing_length : (b : ℕ) (d : List Tok) → length (closing b d) ≡ lengt
 closing_length b [] = refl
 closing_length b (t ∷ d) = ap suc (closing_length (suc b) d)
 
-pub closing_at : (b : ℕ) (d : List Tok) (p : ℕ) → p < length d → get_or (closing b d) p 0 ≡ b + p + close zero (drop p d)
-closing_at b [] p h = absurd (not-suc-le-zero h)
-closing_at b (t ∷ d) zero h = rw add-zero
-closing_at b (t ∷ d) (suc p) h = closing_at (suc b) d p (le_of_suc-le-suc h) ∙ rw (suc-add, add-suc)
+pub closing_at_lem : (b : ℕ) (d : List Tok) (p : ℕ) → p < length d → get_or (closing b d) p 0 ≡ b + p + close zero (drop p d)
+closing_at_lem b [] p h = absurd (not-suc-le-zero h)
+closing_at_lem b (t ∷ d) zero h = rw add-zero
+closing_at_lem b (t ∷ d) (suc p) h = closing_at_lem (suc b) d p (le_of_suc-le-suc h) ∙ rw (suc-add, add-suc)
 
 -- what `closes` wrote, at a place of the document, and for an element the place of its end
 module _ (d : List Tok) (used : ℕ) (e : length d ≡ used) (tail : List ℕ) {out : List ℕ} (eo : out ≡ closing 0 d ++ tail) where
@@ -58,7 +58,7 @@ module _ (d : List Tok) (used : ℕ) (e : length d ≡ used) (tail : List ℕ) {
   closed_at p h =
       ap (λ (l : List ℕ). get_or l p 0) eo
       ∙ get_or-append (closing 0 d) tail 0 p (omega (arith, closing_length 0 d))
-      ∙ closing_at 0 d p (omega arith)
+      ∙ closing_at_lem 0 d p (omega arith)
       ∙ rw zero-add
 
 -- ---- what belongs at a place, as the code tells it

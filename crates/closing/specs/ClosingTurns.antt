@@ -10,7 +10,7 @@ use Rattle.paper.specs.Tokens.{tok_of, toks, close}
 use Rattle.shape_laws.specs.Ends.{rest_next, rest_none}
 use Rattle.shape_laws.specs.Bridge.{length_toks}
 use Rattle.places.specs.Items.{close_le}
-use Rattle.closing.specs.Closing.{closing, closing_at, close_outer, close_none, closing_length, closing_at}
+use Rattle.closing.specs.Closing.{closing, closing_at, close_outer, close_none, closing_length, closing_at_lem}
 
 -- from place p on all is written, and e is what stands at p
 pub record Closing (d : List Tok) (used : ℕ) (out₀ out : List ℕ) (p e : ℕ) : Type 0 where
@@ -45,7 +45,7 @@ module _ (d : List Tok) (used : ℕ) (size : length d ≡ used) (out₀ out : Li
       ap₂ (λ (l : List ℕ) (k : ℕ). get_or l k 0) c.written z
       ∙ get_or-append-add (take (suc p) out₀) (closing (suc p) (drop (suc p) d) ++ drop used out₀) i 0
       ∙ get_or-append (closing (suc p) (drop (suc p) d)) (drop used out₀) 0 i (omega (arith, closing_length (suc p) (drop (suc p) d), length-drop (suc p) d))
-      ∙ closing_at (suc p) (drop (suc p) d) i (omega (arith, length-drop (suc p) d))
+      ∙ closing_at_lem (suc p) (drop (suc p) d) i (omega (arith, length-drop (suc p) d))
       ∙ rw (drop-drop, y)
 
   -- at a start, from the end of that element

@@ -2,7 +2,7 @@
 -- children's names. Assumes nothing.
 use Rattle.std.specs.Prelude.{◌≡◌, refl, ◌↔◌, ◌⊎◌, true, false, List, [], ◌∷◌, ◌++◌, map, ℕ, zero, suc, ◌≤◌, ◌<◌, length, get_or}
 use Rattle.std.proofs.Common.{sym, ap, subst, ◌∙◌, inl, inr, arith, length-append}
-use Rattle.std.proofs.Math.Logic.{Iff·trans}
+use Rattle.std.proofs.Math.Logic.Iff
 use Rattle.std.proofs.Math.Bool.{and-eq-true_iff}
 use Rattle.paper.specs.declared.Tok.{Tok}
 use Rattle.paper.specs.declared.Tok.TheVariants.{Start}
@@ -159,8 +159,8 @@ children_by_text s ds t i d p c w h =
     let good = all_here (declaration_good (is_declared ds)) d.before d.behind (element d.name d.content)
     (subst (λ l. all (declaration_good (is_declared ds)) l ≡ true) d.split (good_kept (is_declared ds) [] ds t.keeps)) in
     let known = ((and-eq-true_iff (each p (is_declared ds)) (model_fits p)).0 (rw c at good)).0 in
-    Iff·trans (subst (λ x. ContentValid x.content (map Start (map (number ds) w)) ↔ ContentValid (content_of (number ds) (model p)) (map Start (map (number ds) w)))
+    Iff.trans (subst (λ x. ContentValid x.content (map Start (map (number ds) w)) ↔ ContentValid (content_of (number ds) (model p)) (map Start (map (number ds) w)))
     (sym (element_of_lem ds i d)) (rw c (λ e. e, λ e. e)))
-    (Iff·trans
+    (Iff.trans
     (λ (v, e, m). subst (Matches (expr_of p (number ds))) (sym (starts_same (map (number ds) w) v e)) m, λ m. (map (number ds) w, refl, m))
     (judged (element_names ds) p w known h))

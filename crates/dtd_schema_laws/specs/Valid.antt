@@ -2,7 +2,7 @@
 -- expressions". Assumes nothing.
 use Rattle.std.specs.Prelude.{◌≡◌, refl, ◌↔◌, ◌⊎◌, Bool, true, List, [], ◌∷◌, ◌++◌, ℕ, zero, T, eqb, take}
 use Rattle.std.proofs.Common.{sym, ap, subst, ◌∙◌, inl, inr, arith}
-use Rattle.std.proofs.Math.Logic.{Iff·trans}
+use Rattle.std.proofs.Math.Logic.Iff
 use Rattle.std.proofs.Math.Option.{none, some}
 use Rattle.paper.specs.declared.Tok.{Tok}
 use Rattle.paper.specs.declared.Tok.TheVariants.{Start, Attr}
@@ -121,7 +121,7 @@ module _ (s : List ℕ) (ds : List Declaration) (taken : Taken s ds) where
         → T (has P (element_at S i) a) ↔ Defines ds e.name Q a
     has_meant {Q} P a h =
         subst (λ x. T (has P x a) ↔ Defines ds e.name Q a) (sym (element_of_lem ds i e))
-        (Iff·trans (has_by_text s ds taken e.name e.content P a) (defines_as (λ d. (h d).0), defines_as (λ d. (h d).1)))
+        (Iff.trans (has_by_text s ds taken e.name e.content P a) (defines_as (λ d. (h d).0), defines_as (λ d. (h d).1)))
 
     allowed_meant : (a : ℕ) → T (has (λ y. true) (element_at S i) a) ↔ Defines ds e.name (λ d. Unit {0}) a
     allowed_meant a = has_meant (λ y. true) a (λ d. (λ p. tt, λ p. refl))

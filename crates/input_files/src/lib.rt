@@ -1,7 +1,7 @@
 // The edit program's three files: schema.dat, doc.dat and edits.dat in the folder that it is started in, opened and read.
 //
 // No contract says which bytes the system reads, so what it answers is kept with each file, and what follows from that is proved.
-// Assumes nothing but the contracts of the system's functions.
+// Assumes nothing but the contracts of std's files.
 #![tactic(auto)]
 
 ghost use Rattle.std.specs.Prelude.{◌≡◌, ◌+◌, ◌≤◌, length};
@@ -9,6 +9,9 @@ ghost use Rattle.paper.specs.Basics.{most_file};
 ghost use Rattle.input_files.specs.Files.{Holds, readable};
 
 use paper::MOST_FILE;
+use std::io::Read;
+use std::rt::Files;
+use std::{fs, io};
 
 // Room for a file, and one byte more: a file that fills it is too long.
 pub const ROOM: usize = MOST_FILE + 1;
@@ -21,7 +24,8 @@ pub enum Name {
     Edits,
 }
 
-// A file as the system answered: which it is, what its opening answered, what the last reading answered, and the bytes read.
+// A file as the system answered: which it is, what its opening answered, what the last reading answered, and the bytes read. An answer is
+// 0, or -1 for an error.
 #[derive(Drop)]
 pub struct File {
     pub name: Name,
@@ -32,13 +36,13 @@ pub struct File {
 }
 
 // What the opening of a file answered.
-#[derive(Clone, Copy)]
-struct Opened {
+#[derive(Drop)]
+struct Opened<F> {
     name: Name,
-    answer: i32,
+    answer: io::Result<F>,
 }
 
-// How many bytes were read, and what the last reading answered: 0 at the end of the file, or below 0.
+// How many bytes were read, and what the last reading answered: 0 at the end of the file, or -1.
 #[derive(Clone, Copy)]
 struct Reading {
     len: usize,
@@ -52,55 +56,63 @@ fn room() -> [u8; ROOM]
 }
 
 // The file of that name, and what its opening answered.
-fn open(name: Name) -> Opened
+fn open<R: Files>(rt: &R, name: Name) -> Opened<R::File>
     ensures { result.name ≡ name }
 {
     let answer = match name {
-        Name::Schema => os::open_read(b"schema.dat"),
-        Name::Doc => os::open_read(b"doc.dat"),
-        Name::Edits => os::open_read(b"edits.dat"),
+        Name::Schema => fs::open(rt, "schema.dat"),
+        Name::Doc => fs::open(rt, "doc.dat"),
+        Name::Edits => fs::open(rt, "edits.dat"),
     };
     Opened { name, answer }
 }
 
 // The file's bytes go into the buffer, until it ends, a reading fails or there is no room.
-fn read_all(file: i32, buffer: &mut [u8]) -> Reading
+fn read_all<R: Read>(file: &mut R, buffer: &mut [u8]) -> Reading
     ensures { result.len ≤ length buffer.new }
 {
     let mut len = 0;
     while len < buffer.len() {
-        let part = &mut buffer[len..];
-        let last = libc::read(file, part);
-        let more = io::count(last, part);
-        if more == 0 {
-            return Reading { len, last };
+        match file.read(&mut buffer[len..]) {
+            Ok(0) => return Reading { len, last: 0 },
+            Ok(more) => len += more,
+            Err(_) => return Reading { len, last: -1 },
         }
-        len += more;
     }
     Reading { len, last: 0 }
 }
 
 // The file of that name, read.
-pub fn load(name: Name) -> File
+pub fn load(rt: &impl Files, name: Name) -> File
     ensures { Holds name result }
 {
     let mut bytes = room();
-    let o = open(name);
+    let o = open(rt, name);
     let of = o.name;
-    let r = read_all(o.answer, &mut bytes);
-    libc::close(o.answer);
-    File {
-        name: of,
-        opened: o.answer,
-        last: r.last,
-        len: r.len,
-        bytes,
+    match o.answer {
+        Ok(mut file) => {
+            let r = read_all(&mut file, &mut bytes);
+            File {
+                name: of,
+                opened: 0,
+                last: r.last,
+                len: r.len,
+                bytes,
+            }
+        }
+        Err(_) => File {
+            name: of,
+            opened: -1,
+            last: -1,
+            len: 0,
+            bytes,
+        },
     }
 }
 
 // Whether the file could be opened and read.
-pub fn was_read(f: File) -> bool
-    ensures { result ≡ readable f }
+pub fn was_read(f: &File) -> bool
+    ensures { result ≡ readable f.now }
 {
     (f.opened >= 0) & (f.last >= 0)
 }

@@ -1,7 +1,7 @@
 -- The test of an element's attributes is passed exactly by valid attributes. Assumes nothing.
 use Rattle.std.specs.Prelude.{◌≡◌, refl, ◌↔◌, ◌⊎◌, Bool, true, false, cond, not, ◌&&◌, ◌||◌, List, [], ◌∷◌, ◌++◌, ℕ, zero, suc, ◌+◌, ◌<◌, T, leb, ltb, eqb, length, get_or}
 use Rattle.std.proofs.Common.{ap, inl, inr, arith, leb→le, eqb→eq}
-use Rattle.std.proofs.Math.Logic.{Iff·rfl, Iff·trans, Iff·and}
+use Rattle.std.proofs.Math.Logic.Iff
 use Rattle.std.proofs.Math.Option.{Option, none, some}
 use Rattle.std.proofs.Math.Dec.{eqb_refl}
 use Rattle.paper.specs.declared.Tok.{Tok}
@@ -21,7 +21,7 @@ use Rattle.judge_laws.specs.Connectives.{and3_iff, imp_iff, every_iff, other, Ea
 
 module _ (P : ℕ → List Tok → Bool) where
   each_first : (t : Tok) (h : List Tok) → T (each_attr P (t ∷ h)) ↔ (((a : ℕ) → t ≡ Attr a → T (P a h)) × T (each_attr P h))
-  each_first (Attr n) h = Iff·trans (and_iff (P n h) (each_attr P h)) (λ p. (λ a c. let e : n ≡ a = cc in rw (← e) p.0, p.1), λ p. (p.0 n refl, p.1))
+  each_first (Attr n) h = Iff.trans (and_iff (P n h) (each_attr P h)) (λ p. (λ a c. let e : n ≡ a = cc in rw (← e) p.0, p.1), λ p. (p.0 n refl, p.1))
   each_first (Start n) h = (λ p. (λ a c. other c refl, p), λ p. p.1)
   each_first End h = (λ p. (λ a c. other c refl, p), λ p. p.1)
   each_first (Text n) h = (λ p. (λ a c. other c refl, p), λ p. p.1)
@@ -30,7 +30,7 @@ module _ (P : ℕ → List Tok → Bool) where
 
   pub each_iff : (h : List Tok) → T (each_attr P h) ↔ Each Attr (λ a r. T (P a r)) h
   each_iff [] = (λ t. each_nil Attr (λ a r. T (P a r)), λ f. tt)
-  each_iff (t ∷ h) = Iff·trans (each_first t h) (Iff·trans (Iff·and Iff·rfl (each_iff h)) (each_cons Attr (λ a r. T (P a r)) t h))
+  each_iff (t ∷ h) = Iff.trans (each_first t h) (Iff.trans (Iff.and Iff.rfl (each_iff h)) (each_cons Attr (λ a r. T (P a r)) t h))
 
 -- ---- an attribute that is present
 
@@ -67,6 +67,7 @@ module _ (a : ℕ) where
 -- a declared attribute's number is one of those that are tested
 below : (low : ℕ) (had : Bool) (met : ℕ) (l : List Attribute) → T (formed_attributes low had met l) → (P : Attribute → Bool) (a : ℕ)
     → T (some_of (λ y. P y && eqb a y.number) l) → a < most_attributes
+below low had met [] f P a t = elim t [ ]
 below low had met (y ∷ l) f P a t =
     let (f, rest) = simp and_iff at f in
     elim (simp or_iff at t) [
@@ -100,6 +101,12 @@ only_iff : (v : ℕ) (r : List Tok) → T (only_value v r) ↔ ((t : List Tok) �
 only_iff v r = (to r, of r)
   where
     to : (r : List Tok) → T (only_value v r) → (t : List Tok) × (r ≡ Value v ∷ t) × (values t ≡ 0)
+    to (Bad ∷ r) t = elim t [ ]
+    to (Attr _ ∷ r) t = elim t [ ]
+    to (Text _ ∷ r) t = elim t [ ]
+    to (End ∷ r) t = elim t [ ]
+    to (Start _ ∷ r) t = elim t [ ]
+    to [] t = elim t [ ]
     to (Value n ∷ r) t = let (p, q) = (and_iff (eqb n v) (eqb (values r) 0)).0 t in (r, ap (λ m. Value m ∷ r) (eqb→eq n v p), eqb→eq (values r) 0 q)
 
     of : (r : List Tok) → (t : List Tok) × (r ≡ Value v ∷ t) × (values t ≡ 0) → T (only_value v r)

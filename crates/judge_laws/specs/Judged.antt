@@ -1,6 +1,6 @@
 -- The judgement from the expressions finds no fault exactly in the valid documents. Assumes nothing.
 use Rattle.std.specs.Prelude.{◌≡◌, refl, ◌↔◌, true, ◌&&◌, ℕ, zero, suc, T, leb, ltb, eqb, length, take}
-use Rattle.std.proofs.Math.Logic.{Iff·trans, Iff·and}
+use Rattle.std.proofs.Math.Logic.Iff
 use Rattle.std.proofs.lemmas.Bool.{false≢true}
 use mathlib.Core.List.{List, [], ◌∷◌, map, head-eq_of_cons-eq}
 use Rattle.std.proofs.Common.{arith, ltb→lt, lt→ltb}
@@ -39,8 +39,8 @@ module _ (fault : ℕ → List Tok → List Tok → ℕ) (given : ℕ → ℕ �
   first_iff : (i : ℕ) (d : List Tok) → ((first fault given whole i d).0 ≡ 0) ↔ Each Start Sound d
   first_iff i [] = (λ e. each_nil Start Sound, λ f. refl)
   first_iff i (t ∷ d) =
-      Iff·trans (else_iff (fault_at fault (t ∷ d)) (given (fault_at fault (t ∷ d)) i (t ∷ d)) (first fault given whole (suc i) d))
-      (Iff·trans (Iff·and (start_iff t d) (first_iff (suc i) d)) (each_cons Start Sound t d))
+      Iff.trans (else_iff (fault_at fault (t ∷ d)) (given (fault_at fault (t ∷ d)) i (t ∷ d)) (first fault given whole (suc i) d))
+      (Iff.trans (Iff.and (start_iff t d) (first_iff (suc i) d)) (each_cons Start Sound t d))
 
 element_iff : (s : Schema) → formed s ≡ true → (n : ℕ) (r : List Tok)
     → (element_fault (of_schema s) n (heads r) (kids zero r) ≡ 0) ↔ ElementValid s n (heads r) (kids zero r)

@@ -59,7 +59,7 @@ module _ (seen : List ℕ) (p : ℕ × ℕ) (l : List (ℕ × ℕ)) where
   )
 
 repeated_from : (seen : List ℕ) (l : List (ℕ × ℕ)) → Rising l → ((repeated seen l).0 ≡ 0) ↔ (Unseen seen l × Once l)
-repeated_from seen [] r = (λ e. (λ i x m. absurd (Memᴰ.not_nil m), λ i j x m n. absurd (Memᴰ.not_nil m)), λ f. refl)
+repeated_from seen [] r = (λ e. (λ i x m. absurd (Memᴰ.not-nil m), λ i j x m n. absurd (Memᴰ.not-nil m)), λ f. refl)
 repeated_from seen (p ∷ l) r = go (elem p.1 seen) refl (repeated_from (p.1 ∷ seen) l r.1)
   where
     go : (b : Bool) → elem p.1 seen ≡ b → ((repeated (p.1 ∷ seen) l).0 ≡ 0) ↔ (Unseen (p.1 ∷ seen) l × Once l)
@@ -71,7 +71,7 @@ repeated_iff : (l : List (ℕ × ℕ)) → Rising l → ((repeated [] l).0 ≡ 0
 repeated_iff l r = let (to, of) = repeated_from [] l r in (λ e. (to e).1, λ f. of (λ i x m t. t, f))
 
 elem_iff : (x : ℕ) (l : List (ℕ × ℕ)) → T (elem x (map value_in l)) ↔ ((j : ℕ) × Holds l j x)
-elem_iff x [] = (λ t. absurd t, λ h. absurd (Memᴰ.not_nil h.1))
+elem_iff x [] = (λ t. absurd t, λ h. absurd (Memᴰ.not-nil h.1))
 elem_iff x (p ∷ l) =
     let (to, of) = elem_iff x l in
     let (apart, joined) = or_iff (eqb x p.1) (elem x (map value_in l)) in (
@@ -86,7 +86,7 @@ elem_iff x (p ∷ l) =
     )
 
 dangling_iff : (ids : List ℕ) (l : List (ℕ × ℕ)) → ((dangling ids l).0 ≡ 0) ↔ ((i x : ℕ) → Holds l i x → T (elem x ids))
-dangling_iff ids [] = (λ e i x m. absurd (Memᴰ.not_nil m), λ f. refl)
+dangling_iff ids [] = (λ e i x m. absurd (Memᴰ.not-nil m), λ f. refl)
 dangling_iff ids (p ∷ l) =
     let (to, of) = dangling_iff ids l in
     let (apart, joined) = pass_iff (elem p.1 ids) (dangling ids l) (12, p.0) (omega arith) in (
@@ -98,6 +98,7 @@ dangling_iff ids (p ∷ l) =
 
 module _ (P : Attribute → Bool) (a : ℕ) where
   has_some : (l : List Attribute) → T (some_of (λ y. P y && eqb a y.number) l) → T (some_of (λ y. eqb a y.number) l)
+  has_some [] t = elim t [ ]
   has_some (y ∷ l) t =
       elim ((or_iff (P y && eqb a y.number) (some_of (λ z. P z && eqb a z.number) l)).0 t) [
         | inl s ↦ or_l (eqb a y.number) (some_of (λ z. eqb a z.number) l) ((and_iff (P y) (eqb a y.number)).0 s).1
@@ -105,6 +106,7 @@ module _ (P : Attribute → Bool) (a : ℕ) where
       ]
 
   has_below : (l : List Element) (n : ℕ) → T (has P (get_or l n undeclared) a) → n < length l
+  has_below [] n t = elim t [ ]
   has_below (x ∷ l) zero t = omega arith
   has_below (x ∷ l) (suc n) t = let k = has_below l n t in omega arith
 

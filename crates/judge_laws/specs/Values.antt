@@ -43,6 +43,7 @@ module _ {A : Type 0} where
   of_cons_if false m = inr m
 
   head_cons_if : (b : Bool) (p : A) (l : List A) → T b → Memᴰ p (cons_if b p l)
+  head_cons_if false p l t = elim t [ ]
   head_cons_if true p l t = Memᴰ.head refl
 
   tail_cons_if : (b : Bool) (q : A) {p : A} {l : List A} → Memᴰ p l → Memᴰ p (cons_if b q l)
@@ -59,7 +60,7 @@ module _ (is : ℕ → ℕ → Bool) where
     later t i e a (u, r, c, k, y) = (t ∷ u, r, rw c, omega arith, y)
 
     pub of_list : (d : List Tok) (i e a : ℕ) → Memᴰ (j, x) (values_of is i e a d) → Listed j x i e a d
-    of_list [] i e a m = absurd (Memᴰ.not_nil m)
+    of_list [] i e a m = absurd (Memᴰ.not-nil m)
     of_list (Start n ∷ d) i e a m = later (Start n) i e a (of_list d (suc i) n a m)
     of_list (End ∷ d) i e a m = later End i e a (of_list d (suc i) e a m)
     of_list (Text n ∷ d) i e a m = later (Text n) i e a (of_list d (suc i) e a m)

@@ -2,7 +2,7 @@
 -- coming reference has an ID, and no ID that went alone is still referred to." Assumes nothing.
 use Rattle.std.specs.Prelude.{◌≡◌, refl, ◌↔◌, ◌⊎◌, Bool, true, false, cond, not, ◌&&◌, ◌||◌, List, [], ◌∷◌, ◌++◌, map, ℕ}
 use Rattle.std.proofs.Common.{inl, inr, arith}
-use Rattle.std.proofs.Math.Logic.{Iff·trans, Iff·and}
+use Rattle.std.proofs.Math.Logic.Iff
 use Rattle.paper.specs.declared.Tok.{Tok}
 use Rattle.paper.specs.Basics.{all, elem, distinct}
 use Rattle.paper.specs.Shape.{is_element}
@@ -166,8 +166,8 @@ pub keys_iff : (R : Rules) (d : List Tok) → ((key_fault R d).0 ≡ 0) ↔ Soun
 keys_iff R d =
     let ids : List ℕ = map value_in (ids_of R d) in
     rw (← found_values (is_id R) 0 0 0 d, ← found_values (is_ref R) 0 0 0 d)
-    (Iff·trans (else_iff (repeated [] (ids_of R d)).0 (repeated [] (ids_of R d)).1 (dangling ids (refs_of R d)))
-    (Iff·and (Iff·trans (repeated_iff (ids_of R d) []) (distinct_iff ids)) (dangling_iff ids (refs_of R d))))
+    (Iff.trans (else_iff (repeated [] (ids_of R d)).0 (repeated [] (ids_of R d)).1 (dangling ids (refs_of R d)))
+    (Iff.and (Iff.trans (repeated_iff (ids_of R d) []) (distinct_iff ids)) (dangling_iff ids (refs_of R d))))
 
 -- what an edit does to the IDs and references of d
 abbrev pub KeptBy : Rules → ℕ → ℕ → List Tok → List Tok → Type 0
@@ -188,7 +188,7 @@ keys_kept R d e {at} {n} {p} w k =
     let m' = comes (is_ref R) at d p in
     let r' = stays (is_ref R) at d n in
     let new = rw (new_values (is_id R) d e w, new_values (is_ref R) d e w) at (keys_iff R (splice at n p d)) in
-    Iff·trans new (to_kept b c m r b' c' m' r' old, of_kept b c m r b' c' m' r' old)
+    Iff.trans new (to_kept b c m r b' c' m' r' old, of_kept b c m r b' c' m' r' old)
 
 -- where no ID stands twice, those that go are apart from those that stay
 pub went_apart : (R : Rules) (d : List Tok) (at n : ℕ) → (key_fault R d).0 ≡ 0

@@ -2,7 +2,7 @@
 -- comes is walked into the set, and then each value that went as an ID or came as a reference is looked at once. Assumes nothing.
 use Rattle.std.specs.Prelude.{◌≡◌, refl, ◌↔◌, ◌⊎◌, Bool, true, false, not, ◌||◌, List, ◌++◌, ℕ, zero, suc, eqb, ltb}
 use Rattle.std.proofs.Common.{sym, ap, ◌∙◌, inl, inr, arith, ltb-true, lt-ltb, eqb-true, eq-eqb}
-use Rattle.std.proofs.Math.Logic.{Iff·trans}
+use Rattle.std.proofs.Math.Logic.Iff
 use Rattle.paper.specs.declared.Tok.{Tok}
 use Rattle.paper.specs.Basics.{all, elem}
 use Rattle.paper.specs.Shape.{is_element}
@@ -110,4 +110,4 @@ keys_walked R d e {at} {n} {p} w k =
     let m' = comes (is_ref R) at d p in
     let r' = stays (is_ref R) at d n in
     let (bc, cr) = went_apart R d at n k in
-    Iff·trans (keys_kept R d e w k) (to_walked b c m r b' m' r', of_walked b c m r b' m' r' bc cr)
+    Iff.trans (keys_kept R d e w k) (to_walked b c m r b' m' r', of_walked b c m r b' m' r' bc cr)

@@ -1,7 +1,7 @@
 -- Every promise of item 4 that is proved: a line for each statement, with the proof that it cites. Those of the calls are proved of any
 -- calls that allow no outcome but the paper's. Assumes nothing.
 use Rattle.std.proofs.Common.{sym, ◌∙◌, inl, inr}
-use Rattle.std.proofs.Math.Logic.{Iff·trans}
+use Rattle.std.proofs.Math.Logic.Iff
 use Rattle.std.specs.Prelude.{[], take}
 use Rattle.paper.specs.Dtd.Numbering.{schema_for}
 use Rattle.dtd_laws.specs.Unique.{unique}
@@ -91,7 +91,7 @@ module _ (calls : Calls) (is : Faithful calls) where
 
   pub check_by_text : dtd.CheckByText calls
   check_by_text text table i ds d buffer used counts o c =
-      Iff·trans (check_valid calls is (schema_for ds) table (imported_is_translated text table i ds d) buffer used counts o c) (valid_by_schema text ds d buffer used)
+      Iff.trans (check_valid calls is (schema_for ds) table (imported_is_translated text table i ds d) buffer used counts o c) (valid_by_schema text ds d buffer used)
 
   pub demand_3_by_text : dtd.Demand3ByText calls
   demand_3_by_text text table i ds d buffer used v counts c l r =

@@ -1,21 +1,16 @@
 -- `places_of` meets its contract. The loop: it holds of the first i places. Assumes nothing.
-use Prim.Native.Nat.{◌-◌, ◌<◌}
-use native.Mathlib.Omega.{arith}
-use lib.ListN.{get_or}
+use Rattle.std.proofs.Common.{◌<◌, get_or, arith}
 use Rattle.ambiguity.proofs.Sharing.{low_name, none_placed, more_placed, all_placed}
 use Rattle.ambiguity.proofs.places_of.Goals as goal
-
-low : (c : goal.In-loop-i invariant-loop decreases-loop) → get_or c.before.before.before.args.names.now c.before.loop.i 0 < 64
-low c = search low_name
 
 pub loop-i-init : goal.loop-i-init
 loop-i-init c = search none_placed
 
 pub overflow_cast-names : goal.overflow_cast-names
-overflow_cast-names c = let l = low c in omega arith
+overflow_cast-names c = let l : get_or c.args.names.now c.loop-i.i 0 < 64 = search low_name in omega arith
 
 pub has-requires : goal.has-requires
-has-requires c = low c
+has-requires c = search low_name
 
 pub loop-i-preserved : goal.loop-i-preserved
 loop-i-preserved c = search more_placed

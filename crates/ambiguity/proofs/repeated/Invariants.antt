@@ -9,5 +9,3 @@ invariant-loop-i l = Repeats l.n l.names l.seen l.twice l.i
 abbrev pub decreases-loop-i : goal.decreases-loop-i
 decreases-loop-i l =
     l.n - l.i
-
--- the name at a place fits a word

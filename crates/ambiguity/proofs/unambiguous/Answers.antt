@@ -1,6 +1,6 @@
 -- `unambiguous` meets its contract. The loop: the answer is that of the follow sets from k on, and the set before holds no two. Assumes nothing.
-use Prim.Native.Nat.{◌-◌}
-use borrow.Author.Rules.{rules}
+use Rattle.std.proofs.Common.{ap, rules}
+use Rattle.std.proofs.Math.Bool.{not}
 use Rattle.ambiguity.proofs.Sharing.{names_differ, walk_small, first_clash, first_passes, next_clash, next_passes, all_pass}
 use Rattle.ambiguity.proofs.unambiguous.Goals as goal
 
@@ -25,7 +25,7 @@ returns-then-not-once_after c = search next_clash
 pub loop-k-preserved : goal.loop-k-preserved
 loop-k-preserved c =
     next_passes c.requires c.repeated-twice.ensures c.places_of-shared.ensures _ _ _ c.loop-k.invariant c.loop-k-test.true
-    c.once_after.ensures c.if-not-once_after.false
+    c.once_after.ensures (ap not c.if-not-once_after.false)
 
 pub returns : goal.returns
 returns c = search all_pass

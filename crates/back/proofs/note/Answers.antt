@@ -12,7 +12,7 @@ copy_tokens-requires c =
     let a = c.args in
     let e = c.adds.ensures in
     let room = added_room a.operation a.place a.piece.now a.doc.now a.at a.cut c.requires.cuts e c.if-adds.true in (
-      omega (arith, c.note_head.auto.0, room, c.requires.doc_in_bounds),
+      omega (arith, c.note_head.auto.second, room, c.requires.doc_in_bounds),
       added_some a.operation a.place a.piece.now a.doc.now a.at a.cut c.requires.cuts e c.if-adds.true,
     )
 
@@ -20,7 +20,7 @@ pub copy_tokens-requires-else-adds : goal.copy_tokens-requires-else-adds
 copy_tokens-requires-else-adds c =
     let a = c.args in
     let room = went_room a.operation a.place a.piece.now a.doc.now a.at a.cut c.requires.cuts c.adds.ensures c.if-adds.false in
-    (omega (arith, c.note_head.auto.0, room, c.requires.doc_in_bounds), omega (arith, c.requires.cuts.within))
+    (omega (arith, c.note_head.auto.second, room, c.requires.doc_in_bounds), omega (arith, c.requires.cuts.within))
 
 pub returns-then-adds : goal.returns-then-adds
 returns-then-adds c = search note_added

@@ -1,5 +1,4 @@
 -- `doc_writer::all_small` meets its contract. The loop's invariant is `Seeking`; the measure is how many tokens are left. Assumes nothing.
-use Prim.Native.Nat.{◌-◌}
 use Rattle.doc_writer.specs.Writer.{seek_none, seek_more, seek_end}
 use Rattle.doc_writer.proofs.all_small.Goals as goal
 

@@ -1,5 +1,5 @@
 -- `doc_writer::count_bytes` meets its contract. The loop's invariant is `Adding`; the measure is how many tokens are left. Assumes nothing.
-use Prim.Native.Nat.{◌-◌, ◌≤◌}
+use Prim.Native.Nat.{◌≤◌}
 use native.Mathlib.Omega.{arith}
 use Rattle.numbers.specs.Store.{most_wide}
 use Rattle.doc_writer.specs.Writer.{add_none, add_more, add_end}

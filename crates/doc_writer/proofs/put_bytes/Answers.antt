@@ -1,5 +1,4 @@
 -- `doc_writer::put_bytes` meets its contract. The loop's invariant is `Storing`; the measure is how many tokens are left. Assumes nothing.
-use Prim.Native.Nat.{◌-◌}
 use Rattle.doc_writer.specs.Writer.{store_none, store_fits, store_more, store_end}
 use Rattle.doc_writer.proofs.put_bytes.Goals as goal
 

@@ -1,5 +1,6 @@
 -- `doc_writer::write` meets its contract: a law for each answer, in the paper's order. Assumes nothing.
-use native.Mathlib.Omega.{arith}
+use Rattle.std.proofs.Common.{arith, ap}
+use Rattle.std.proofs.Math.Bool.{not}
 use Rattle.doc_writer.specs.Writer.{write_many, write_large, write_full, write_ready, file_long, write_done}
 use Rattle.doc_writer.proofs.write.Goals as goal
 
@@ -14,7 +15,7 @@ returns-then-n-file c = search write_full
 
 pub put_bytes-requires : goal.put_bytes-requires
 put_bytes-requires c =
-    write_ready _ _ c.if-tokens-gt-MOST_TOKENS.false c.all_small.ensures c.if-not-all_small.false c.count_bytes-n.ensures c.if-n-file.false
+    write_ready _ _ c.if-tokens-gt-MOST_TOKENS.false c.all_small.ensures (ap not c.if-not-all_small.false) c.count_bytes-n.ensures c.if-n-file.false
 
 pub overflow_cast-count : goal.overflow_cast-count
 overflow_cast-count c = omega (arith, c.count_bytes-n.ensures, file_long c.args.tokens.now)

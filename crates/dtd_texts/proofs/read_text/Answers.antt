@@ -22,15 +22,6 @@ shape_of-contents-then-t-ne0 c = c.loop-at.invariant.long.contents_long ∙ sym 
 pub shape_of-ends-then-t-ne0 : goal.shape_of-ends-then-t-ne0
 shape_of-ends-then-t-ne0 c = c.loop-at.invariant.long.ends_long ∙ sym c.requires.lists.ends_long
 
-pub shape_of-attributes-then-t-ne0 : goal.shape_of-attributes-then-t-ne0
-shape_of-attributes-then-t-ne0 c = c.turn_at-t.auto.1.1.1.1.0 ∙ c.loop-at.invariant.long.attributes_long ∙ sym c.requires.lists.attributes_long
-
-pub shape_of-heads-then-t-ne0 : goal.shape_of-heads-then-t-ne0
-shape_of-heads-then-t-ne0 c = c.turn_at-t.auto.1.1.1.1.1.1.1.1.1.0 ∙ c.loop-at.invariant.long.heads_long ∙ sym c.requires.lists.heads_long
-
-pub shape_of-rows-then-t-ne0 : goal.shape_of-rows-then-t-ne0
-shape_of-rows-then-t-ne0 c = c.turn_at-t.auto.1.1.1.1.1.1.1.1.1.1.1.0 ∙ c.loop-at.invariant.long.rows_long ∙ sym c.requires.lists.rows_long
-
 pub returns-then-t-ne0 : goal.returns-then-t-ne0
 returns-then-t-ne0 c = search (rules, refused)
 
@@ -39,24 +30,24 @@ bounds-elements-count c =
     let a = c.args in
     let t = c.turn_at-t in
     in_elements (known_by a.strict (names_at a.text.now (take a.total a.known.now))) a.text.now c.loop-at.elements c.loop-at.contents c.loop-at.ends c.loop-at.attributes c.loop-at.heads c.loop-at.rows
-    c.loop-at.at c.loop-at.count c.loop-at.defined c.loop-at.many c.loop-at.invariant c.loop-at-test.true t.new.1.1.1.1.0 t.new.1.1.1.1.1.1.1.1.1.0 t.new.1.1.1.1.1.1.1.1.1.1.1.0 t.result t.ensures c.if-t-ne0.false
-    t.auto.1.1.1.1.0 t.auto.1.1.1.1.1.1.1.1.1.0 t.auto.1.1.1.1.1.1.1.1.1.1.1.0 c.if-t-eq1.true
+    c.loop-at.at c.loop-at.count c.loop-at.defined c.loop-at.many c.loop-at.invariant c.loop-at-test.true t.new.attributes t.new.heads t.new.rows t.result t.ensures c.if-t-ne0.false
+    t.auto.attributes t.auto.heads t.auto.rows c.if-t-eq1.true
 
 pub bounds-contents-count : goal.bounds-contents-count
 bounds-contents-count c =
     let a = c.args in
     let t = c.turn_at-t in
     in_contents (known_by a.strict (names_at a.text.now (take a.total a.known.now))) a.text.now c.loop-at.elements c.loop-at.contents c.loop-at.ends c.loop-at.attributes c.loop-at.heads c.loop-at.rows
-    c.loop-at.at c.loop-at.count c.loop-at.defined c.loop-at.many c.loop-at.invariant c.loop-at-test.true t.new.1.1.1.1.0 t.new.1.1.1.1.1.1.1.1.1.0 t.new.1.1.1.1.1.1.1.1.1.1.1.0 t.result t.ensures c.if-t-ne0.false
-    t.auto.1.1.1.1.0 t.auto.1.1.1.1.1.1.1.1.1.0 t.auto.1.1.1.1.1.1.1.1.1.1.1.0 c.if-t-eq1.true
+    c.loop-at.at c.loop-at.count c.loop-at.defined c.loop-at.many c.loop-at.invariant c.loop-at-test.true t.new.attributes t.new.heads t.new.rows t.result t.ensures c.if-t-ne0.false
+    t.auto.attributes t.auto.heads t.auto.rows c.if-t-eq1.true
 
 pub bounds-ends-count : goal.bounds-ends-count
 bounds-ends-count c =
     let a = c.args in
     let t = c.turn_at-t in
     in_ends (known_by a.strict (names_at a.text.now (take a.total a.known.now))) a.text.now c.loop-at.elements c.loop-at.contents c.loop-at.ends c.loop-at.attributes c.loop-at.heads c.loop-at.rows
-    c.loop-at.at c.loop-at.count c.loop-at.defined c.loop-at.many c.loop-at.invariant c.loop-at-test.true t.new.1.1.1.1.0 t.new.1.1.1.1.1.1.1.1.1.0 t.new.1.1.1.1.1.1.1.1.1.1.1.0 t.result t.ensures c.if-t-ne0.false
-    t.auto.1.1.1.1.0 t.auto.1.1.1.1.1.1.1.1.1.0 t.auto.1.1.1.1.1.1.1.1.1.1.1.0 c.if-t-eq1.true
+    c.loop-at.at c.loop-at.count c.loop-at.defined c.loop-at.many c.loop-at.invariant c.loop-at-test.true t.new.attributes t.new.heads t.new.rows t.result t.ensures c.if-t-ne0.false
+    t.auto.attributes t.auto.heads t.auto.rows c.if-t-eq1.true
 
 pub overflow_add-count : goal.overflow_add-count
 overflow_add-count c = search (rules, room)

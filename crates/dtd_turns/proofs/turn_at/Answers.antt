@@ -29,24 +29,15 @@ attlist_at-l-requires c =
     let a = c.args in
     (mark_inside (known_by a.strict (names_at a.text.now (take a.total a.known.now))) a.text.now a.at a.elements.now a.count a.attributes.now a.defined a.heads.now a.many a.rows.now c.requires.standing c.is_white.result c.is_white.ensures c.if-is_white.false c.word_at-m.result c.word_at-m.ensures c.if-m-ne0.false, c.requires.standing.room, c.requires.standing.ready, c.requires.total_in_bounds, c.requires.standing.table)
 
-pub shape_of-attributes-then-byte_at-2 : goal.shape_of-attributes-then-byte_at-2
-shape_of-attributes-then-byte_at-2 c = c.attlist_at-l.auto.1.1.1.0
-
-pub shape_of-heads-then-byte_at-2 : goal.shape_of-heads-then-byte_at-2
-shape_of-heads-then-byte_at-2 c = c.attlist_at-l.auto.1.1.1.1.1.1.1.1.0
-
-pub shape_of-rows-then-byte_at-2 : goal.shape_of-rows-then-byte_at-2
-shape_of-rows-then-byte_at-2 c = c.attlist_at-l.auto.1.1.1.1.1.1.1.1.1.1.0
-
 pub returns-then-byte_at-2 : goal.returns-then-byte_at-2
 returns-then-byte_at-2 c =
     let a = c.args in
-    rw c.nothing-then-byte_at-2.ensures (lists (known_by a.strict (names_at a.text.now (take a.total a.known.now))) a.text.now a.at a.elements.now a.count a.attributes.now a.defined a.heads.now a.many a.rows.now c.requires.standing c.is_white.result c.is_white.ensures c.if-is_white.false c.word_at-m.result c.word_at-m.ensures c.if-m-ne0.false c.byte_at.result c.byte_at.ensures c.if-byte_at.false c.byte_at-2.result c.byte_at-2.ensures c.attlist_at-l.new.1.1.1.0 c.attlist_at-l.new.1.1.1.1.1.1.1.1.0 c.attlist_at-l.new.1.1.1.1.1.1.1.1.1.1.0 c.attlist_at-l.result c.if-byte_at-2.true c.attlist_at-l.ensures)
+    rw c.nothing-then-byte_at-2.ensures (lists (known_by a.strict (names_at a.text.now (take a.total a.known.now))) a.text.now a.at a.elements.now a.count a.attributes.now a.defined a.heads.now a.many a.rows.now c.requires.standing c.is_white.result c.is_white.ensures c.if-is_white.false c.word_at-m.result c.word_at-m.ensures c.if-m-ne0.false c.byte_at.result c.byte_at.ensures c.if-byte_at.false c.byte_at-2.result c.byte_at-2.ensures c.attlist_at-l.new.attributes c.attlist_at-l.new.heads c.attlist_at-l.new.rows c.attlist_at-l.result c.if-byte_at-2.true c.attlist_at-l.ensures)
 
 pub element_at-e-requires : goal.element_at-e-requires
 element_at-e-requires c =
     let a = c.args in
-    (record { inside = mark_inside (known_by a.strict (names_at a.text.now (take a.total a.known.now))) a.text.now a.at a.elements.now a.count a.attributes.now a.defined a.heads.now a.many a.rows.now c.requires.standing c.is_white.result c.is_white.ensures c.if-is_white.false c.word_at-m.result c.word_at-m.ensures c.if-m-ne0.false; some = c.requires.standing.some; few = c.requires.standing.few }, c.requires.total_in_bounds)
+    record { declaring = record { inside = mark_inside (known_by a.strict (names_at a.text.now (take a.total a.known.now))) a.text.now a.at a.elements.now a.count a.attributes.now a.defined a.heads.now a.many a.rows.now c.requires.standing c.is_white.result c.is_white.ensures c.if-is_white.false c.word_at-m.result c.word_at-m.ensures c.if-m-ne0.false; some = c.requires.standing.some; few = c.requires.standing.few }; total_in_bounds = c.requires.total_in_bounds }
 
 pub returns : goal.returns
 returns c =

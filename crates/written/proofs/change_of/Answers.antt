@@ -33,4 +33,4 @@ pub overflow_sub-result : goal.overflow_sub-result
 overflow_sub-result c = subst (SFits w32) (sym (read c)) (held c)
 
 pub returns : goal.returns
-returns c = to_z-of_z {w = w32} (sub-result c) ∙ read c
+returns c = to_z-of_z {w = w32} (overflow_sub-result c) ∙ read c

@@ -1,6 +1,5 @@
 -- `written::clear` meets its contract. Assumes nothing.
 use Rattle.written.specs.Written.{clearing_begin, clearing_turn, clearing_out}
-use Prim.Native.Nat.{◌-◌}
 use Rattle.written.proofs.clear.Goals as goal
 
 pub loop-p-init : goal.loop-p-init

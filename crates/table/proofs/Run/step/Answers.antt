@@ -4,7 +4,7 @@ use Rattle.table.specs.Step.{follow_sound, at_inside, at_below, step_start, step
 use Rattle.table.proofs.Run.step.Goals as goal
 
 pub bounds-block-next : goal.bounds-block-next
-bounds-block-next c = let h = at_below _ c.requires.0 c.requires.1 c.self-1.given.1 in omega arith
+bounds-block-next c = let h = at_below _ c.requires.ready c.requires.self_value c.in-At.is in omega arith
 
 pub move_to-requires-in-At : goal.move_to-requires-in-At
 move_to-requires-in-At c = search (follow_sound, at_inside)
