@@ -91,7 +91,7 @@ named (Attr n ∷ k) = named k
 named (Value n ∷ k) = named k
 named (Bad ∷ k) = named k
 
--- Item 1: "A text_only_lem element now has no text or one, still no child element, and two texts side by side stay a content fault."
+-- Item 1: "A text-only element now has no text or one, still no child element, and two texts side by side stay a content fault."
 abbrev pub text_or_none : List Tok → Bool
 text_or_none [] = true
 text_or_none (Text n ∷ k) = null k

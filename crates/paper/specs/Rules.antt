@@ -74,7 +74,7 @@ pub data State : Type 0 where
   start : State
   at : ℕ → State
 
--- "judged by running it: begin in first, move by follow, end in last, or by the no_child flag"
+-- "judged by running it: begin in first, move by follow, end in last, or by the no-child flag"
 abbrev pub set_at : List ℕ → State → ℕ
 set_at b start = cell b first_at
 set_at b (at k) = cell b (follow_at + k)

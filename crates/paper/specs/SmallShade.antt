@@ -59,7 +59,7 @@ pub last_asked : checks_as (schema_of (file_of (two_with (0 ∷ 6 ∷ 7 ∷ []))
 unfolding all_open
 last_asked = refl
 
--- ---- a text_only_lem element without text
+-- ---- a text-only element without text
 
 -- Item 1: document 01 with the text of its row gone
 pub empty_row : checks_as (schema_of (file_of shade)) (1 ∷ 4 ∷ 61 ∷ 9 ∷ 12 ∷ 165 ∷ 17 ∷ 2 ∷ 2 ∷ 25 ∷ 20 ∷ 165 ∷ 2 ∷ 2 ∷ []) 0 0 ≡ true

@@ -193,7 +193,7 @@ proper_sets b =
 abbrev pub proper_next : ℕ → List ℕ → ℕ → Bool
 proper_next n names w = ltb w (2 ^ n) && distinct (chosen w names)
 
--- "n is 1 to 64 for kind 2; the no_child flag is 0 or 1; sets use only the lowest n bits; the first n names are below E; neither
+-- "n is 1 to 64 for kind 2; the no-child flag is 0 or 1; sets use only the lowest n bits; the first n names are below E; neither
 -- the first set nor any follow set holds two occurrences of one name; unused numbers [..] are 0"
 unfoldable pub proper_model : ℕ → List ℕ → Bool
 proper_model E b =

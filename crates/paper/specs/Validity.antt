@@ -22,7 +22,7 @@ pub record AttributesValid (x : Element) (h : List Tok) : Type 0 where
   pub fixed : (u r : List Tok) (a v : ℕ) → h ≡ u ++ Attr a ∷ r → fixed_to x a ≡ some v → (t : List Tok) × (r ≡ Value v ∷ t) × (values t ≡ 0)
 
 -- "content (9): EMPTY has no child and no text, text only [..], a model has no text and a child sequence that the expression
--- describes". Item 1: "A text_only_lem element now has no text or one, still no child element". k: the children and texts
+-- describes". Item 1: "A text-only element now has no text or one, still no child element". k: the children and texts
 abbrev pub ContentValid : Content → List Tok → Type 0
 ContentValid empty k = k ≡ []
 ContentValid text k = (k ≡ []) ⊎ ((n : ℕ) × (k ≡ Text n ∷ []))
