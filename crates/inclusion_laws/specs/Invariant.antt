@@ -44,10 +44,12 @@ module _ {P : Type 0} (E : ℕ) where
   rising_all (y ∷ l) lo hi (i, r) = let k = rising_all l (suc (place E y)) hi r in omega arith
 
   pub rising_low : (l : List (Entry P)) (lo hi : ℕ) (y : Entry P) → Rising E lo hi l → Member y l → lo ≤ place E y
+  rising_low [] lo hi y _ x3 = elim x3 [ ]
   rising_low (x ∷ l) lo hi y (i, r) (inl e) = rw e i
   rising_low (x ∷ l) lo hi y (i, r) (inr j) = let k = rising_low l (suc (place E x)) hi y r j in omega arith
 
   pub rising_high : (l : List (Entry P)) (lo hi : ℕ) (y : Entry P) → Rising E lo hi l → Member y l → place E y < hi
+  rising_high [] lo hi y _ x3 = elim x3 [ ]
   rising_high (x ∷ l) lo hi y (i, r) (inl e) = rw e (rising_all l (suc (place E x)) hi r)
   rising_high (x ∷ l) lo hi y (i, r) (inr j) = rising_high l (suc (place E x)) hi y r j
 
