@@ -9,7 +9,7 @@ loop-i-init c = search none_repeats
 pub overflow_cast-names : goal.overflow_cast-names
 overflow_cast-names c = let l : get_or c.args.names.now c.loop-i.i 0 < 64 = search low_name in omega arith
 
-pub one-name-requires : goal.one_name-requires
+pub one-name-requires : goal.one-name-requires
 one-name-requires c = search low_name
 
 pub loop-i-preserved : goal.loop-i-preserved
