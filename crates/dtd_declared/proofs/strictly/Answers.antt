@@ -26,10 +26,10 @@ slice_bounds-read_text-end-6 c = refl
 
 pub read_text-r-requires : goal.read_text-r-requires
 read_text-r-requires c =
-    (record { elements_long = refl; contents_long = refl; ends_long = refl; attributes_long = refl; heads_long = refl; rows_long = refl }, c.requires)
+    record { lists = record { elements_long = refl; contents_long = refl; ends_long = refl; attributes_long = refl; heads_long = refl; rows_long = refl }; total_in_bounds = c.requires }
 
 pub returns : goal.returns
 returns c =
     let t = c.read_text-r in
     let a = c.args in
-    came (known_by true (names_at a.text.now (take a.count a.elements.now))) a.text.now t.result t.new.1.1.1.1.0 t.new.1.1.1.1.1.0 t.new.1.1.1.1.1.1.0 t.new.1.1.1.1.1.1.1.0 t.new.1.1.1.1.1.1.1.1.0 t.new.1.1.1.1.1.1.1.1.1.0 t.ensures
+    came (known_by true (names_at a.text.now (take a.count a.elements.now))) a.text.now t.result t.new.elements t.new.contents t.new.ends t.new.attributes t.new.heads t.new.rows t.ensures
