@@ -168,6 +168,7 @@ module _ (a b : List ℕ → Bool) (s : List ℕ) where
   }
     where
       held : (c d : Bool) → T c → (c && not d ≡ true → ⊥) → T d
+      held false d t n = elim t [ ]
       held true true t n = tt
       held true false t n = absurd (n refl)
   answer_tells (some w) (p, l) = record {
