@@ -4,13 +4,13 @@ use Rattle.pairs.specs.Number.{old_run, new_run, stepped_small, leads_nowhere, l
 use Rattle.pairs.proofs.leads.Goals as goal
 
 pub step-requires : goal.step-requires
-step-requires c = old_run c.requires c.run_of.result c.run_of.ensures
+step-requires c = let (r, i) = old_run c.requires c.run_of.result c.run_of.ensures in record { ready = r; self_value = i }
 
 pub number_of-was-requires : goal.number_of-was-requires
 number_of-was-requires c = search stepped_small
 
 pub step-requires-2 : goal.step-requires-2
-step-requires-2 c = new_run c.requires c.run_of-2.result c.run_of-2.ensures
+step-requires-2 c = let (r, i) = new_run c.requires c.run_of-2.result c.run_of-2.ensures in record { ready = r; self_value = i }
 
 pub number_of-is-requires : goal.number_of-is-requires
 number_of-is-requires c = search stepped_small

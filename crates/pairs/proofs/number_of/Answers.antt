@@ -4,7 +4,7 @@ use native.Mathlib.Omega.{arith}
 use Rattle.pairs.proofs.number_of.Goals as goal
 
 pub overflow_add-result : goal.overflow_add-result
-overflow_add-result c = omega (arith, number_at c.run-1.given.1)
+overflow_add-result c = omega (arith, number_at c.in-At.is)
 
 pub returns-in-At : goal.returns-in-At
 returns-in-At c = search number_at

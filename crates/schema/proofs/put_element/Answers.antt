@@ -31,7 +31,7 @@ returns-then-s-ne-DONE c =
     c.if-n-ne-DONE.false c.attributes_at-s.ensures c.if-s-ne-DONE.true c.no_place-then-s-ne-DONE.ensures
 
 pub put_sets-requires : goal.put_sets-requires
-put_sets-requires c = block_kept c.put_content-c.new.1.1.1.1.0 c.args.block.now c.put_content-c.auto.1.1.1.1.0 c.requires.1
+put_sets-requires c = block_kept c.put_content-c.new.block c.args.block.now c.put_content-c.auto.block c.requires.1
 
 pub returns : goal.returns
 returns c =

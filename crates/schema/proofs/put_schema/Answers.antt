@@ -30,7 +30,7 @@ pub shape_of-table-then-all-ne-DONE : goal.shape_of-table-then-all-ne-DONE
 shape_of-table-then-all-ne-DONE c =
     let n = c.number_in-n.result.value in
     let root = c.number_in-root.result.value in
-    head_kept n root c.requires.0 c.put_elements-all.new.1.1.1.0 c.put_elements-all.auto.1.1.1.0
+    head_kept n root c.requires.0 c.put_elements-all.new.table c.put_elements-all.auto.table
 
 pub returns-then-all-ne-DONE : goal.returns-then-all-ne-DONE
 returns-then-all-ne-DONE c = search schema_elements
@@ -39,7 +39,7 @@ pub shape_of-table-then-all-file : goal.shape_of-table-then-all-file
 shape_of-table-then-all-file c =
     let n = c.number_in-n.result.value in
     let root = c.number_in-root.result.value in
-    head_kept n root c.requires.0 c.put_elements-all.new.1.1.1.0 c.put_elements-all.auto.1.1.1.0
+    head_kept n root c.requires.0 c.put_elements-all.new.table c.put_elements-all.auto.table
 
 pub returns-then-all-file : goal.returns-then-all-file
 returns-then-all-file c = search schema_leftover
@@ -48,7 +48,7 @@ pub shape_of-table-else-all-file : goal.shape_of-table-else-all-file
 shape_of-table-else-all-file c =
     let n = c.number_in-n.result.value in
     let root = c.number_in-root.result.value in
-    head_kept n root c.requires.0 c.put_elements-all.new.1.1.1.0 c.put_elements-all.auto.1.1.1.0
+    head_kept n root c.requires.0 c.put_elements-all.new.table c.put_elements-all.auto.table
 
 pub returns-else-all-file : goal.returns-else-all-file
 returns-else-all-file c =
