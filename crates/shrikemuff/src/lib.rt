@@ -1,4 +1,5 @@
-// The host library: the calls under the names and types of C. `include/shrikemuff.h` describes them to a host.
+// The host library: the calls under the names and types of C. `include/shrikemuff.h` describes them to a host, and `shrikemuff_c` exports
+// them.
 //
 // A slice is a pointer and a length, a struct is C's struct. No call asks anything of its arguments, allocates or keeps state; the
 // contract of each fixes the whole outcome: the answer and every place of lent memory. `proofs/Contracts.antt` holds them to the
@@ -64,32 +65,28 @@ pub struct Spot {
 }
 
 // Reads a document file into the first places of the buffer.
-#[unsafe(no_mangle)]
-pub extern "C" fn shrike_read(file: &[u8], tokens: &mut [u32]) -> Count
+pub fn shrike_read(file: &[u8], tokens: &mut [u32]) -> Count
     ensures { Reads file.now tokens.old (counted result tokens.new) }
 {
     docfile::read(file, tokens)
 }
 
 // Writes every token of the slice into the first bytes of the buffer.
-#[unsafe(no_mangle)]
-pub extern "C" fn shrike_write(tokens: &[u32], file: &mut [u8]) -> Count
+pub fn shrike_write(tokens: &[u32], file: &mut [u8]) -> Count
     ensures { Writes tokens.now file.old (counted result file.new) }
 {
     doc_writer::write(tokens, file)
 }
 
 // Translates a schema file to a table.
-#[unsafe(no_mangle)]
-pub extern "C" fn shrike_translate(file: &[u8], table: &mut [u64]) -> u32
+pub fn shrike_translate(file: &[u8], table: &mut [u64]) -> u32
     ensures { Translates file.now table.old (result, table.new) }
 {
     schema::translate(file, table)
 }
 
 // Checks the first `used` tokens of the buffer. A check that says valid writes the counts.
-#[unsafe(no_mangle)]
-pub extern "C" fn shrike_check(
+pub fn shrike_check(
     table: &[u64],
     doc: &[u32],
     used: u64,
@@ -106,8 +103,7 @@ pub extern "C" fn shrike_check(
 
 // Makes an edit of the first `used` tokens of the buffer, or refuses it. A done edit writes the edit that takes it back into the first
 // places of the second buffer, and moves the counts.
-#[unsafe(no_mangle)]
-pub extern "C" fn shrike_edit(
+pub fn shrike_edit(
     table: &[u64],
     doc: &mut [u32],
     used: u64,
@@ -139,20 +135,14 @@ pub extern "C" fn shrike_edit(
 }
 
 // The number of elements of a name, answered from the counts.
-#[unsafe(no_mangle)]
-pub extern "C" fn shrike_elements(
-    table: &[u64],
-    counts: &[i32; paper::MOST_ELEMENTS],
-    name: u32,
-) -> Count
+pub fn shrike_elements(table: &[u64], counts: &[i32; paper::MOST_ELEMENTS], name: u32) -> Count
     ensures { Tells table.now counts.now name (result.number, result.count) }
 {
     checks::elements(table, counts, name)
 }
 
 // Makes the edits of a list one after another, up to the first refusal. No inverse is written; the counts are carried along.
-#[unsafe(no_mangle)]
-pub extern "C" fn shrike_list(
+pub fn shrike_list(
     table: &[u64],
     doc: &mut [u32],
     used: u64,
@@ -176,8 +166,7 @@ pub extern "C" fn shrike_list(
 }
 
 // Makes the edits of a list on the second buffer, judges the last document whole, and copies it back if it is valid. No inverse is written.
-#[unsafe(no_mangle)]
-pub extern "C" fn shrike_group(
+pub fn shrike_group(
     table: &[u64],
     doc: &mut [u32],
     used: u64,
@@ -197,37 +186,28 @@ pub extern "C" fn shrike_group(
 }
 
 // Compares an element's content in two tables; what is lost is written into the first places of the buffer.
-#[unsafe(no_mangle)]
-pub extern "C" fn shrike_compare(
-    old: &[u64],
-    new: &[u64],
-    element: u32,
-    sequence: &mut [u32],
-) -> Compared
+pub fn shrike_compare(old: &[u64], new: &[u64], element: u32, sequence: &mut [u32]) -> Compared
     ensures { Compares old.now new.now element sequence.old (compared result sequence.new) }
 {
     compare::compare(old, new, element, sequence)
 }
 
 // Turns a DTD text into a schema file, in the first bytes of the buffer.
-#[unsafe(no_mangle)]
-pub extern "C" fn shrike_import(text: &[u8], file: &mut [u8]) -> Count
+pub fn shrike_import(text: &[u8], file: &mut [u8]) -> Count
     ensures { Imports text.now file.old (counted result file.new) }
 {
     dtd::import(text, file)
 }
 
 // Writes the names of a DTD text into the first bytes of the buffer.
-#[unsafe(no_mangle)]
-pub extern "C" fn shrike_names(text: &[u8], names: &mut [u8]) -> Count
+pub fn shrike_names(text: &[u8], names: &mut [u8]) -> Count
     ensures { Names text.now names.old (counted result names.new) }
 {
     dtd::names(text, names)
 }
 
 // Tells where a DTD text is refused.
-#[unsafe(no_mangle)]
-pub extern "C" fn shrike_import_spot(text: &[u8]) -> Spot
+pub fn shrike_import_spot(text: &[u8]) -> Spot
     ensures { Spots text.now (spotted result) }
 {
     let met = dtd::import_spot(text);

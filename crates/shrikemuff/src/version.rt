@@ -6,8 +6,7 @@ ghost use Rattle.shrikemuff.specs.Version.{version};
 pub const VERSION: u32 = 2000000;
 
 // major × 1,000,000 + minor × 1,000 + patch
-#[unsafe(no_mangle)]
-pub extern "C" fn shrike_version() -> u32
+pub fn shrike_version() -> u32
     ensures { result ≡ version }
 {
     VERSION

@@ -1,8 +1,8 @@
 -- `attributes::listed` meets its contract. The loop's invariant is `Passing`; the measure is how many tokens are left. Assumes nothing.
 use Prim.Native.Nat.{◌-◌}
-use mathlib.Core.Logic.{⊎_elim}
 use Rattle.attributes.specs.Attributes.{passing_begin, passing_attribute, passing_value, passing_other, passing_out}
 use Rattle.attributes.proofs.listed.Goals as goal
+use Rattle.attributes.proofs.listed.Goals.{else-loop-i-test, then-loop-i-test+else-is_attribute+else-is_value}
 
 pub loop-i-init : goal.loop-i-init
 loop-i-init c = search passing_begin
@@ -14,4 +14,4 @@ pub loop-i-preserved : goal.loop-i-preserved
 loop-i-preserved c = search passing_value
 
 pub returns : goal.returns
-returns c = ⊎_elim (λ w. search passing_out) (λ w. search passing_other) c.loop-i-test.branch
+returns c = elim c.loop-i-test.branch [ else-loop-i-test w ↦ search passing_out | then-loop-i-test+else-is_attribute+else-is_value w ↦ search passing_other ]

@@ -9,7 +9,7 @@ pub loop-at-init : goal.loop-at-init
 loop-at-init c = search entering_begin
 
 pub put_in-fresh-requires : goal.put_in-fresh-requires
-put_in-fresh-requires c = (search rules, (search rules, search entering_room))
+put_in-fresh-requires c = record { table_value = search rules; long = (search rules, search entering_room) }
 
 pub loop-at-smaller : goal.loop-at-smaller
 loop-at-smaller c = search pass_less

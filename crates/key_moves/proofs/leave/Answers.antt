@@ -9,7 +9,7 @@ pub loop-at-init : goal.loop-at-init
 loop-at-init c = search leaving_begin
 
 pub take_out-requires : goal.take_out-requires
-take_out-requires c = (search rules, (search rules, search leaving_enough))
+take_out-requires c = record { table_value = search rules; long = (search rules, search leaving_enough) }
 
 pub loop-at-smaller : goal.loop-at-smaller
 loop-at-smaller c = search pass_less
