@@ -29,10 +29,10 @@ pub returns-then-d-ne0 : goal.returns-then-d-ne0
 returns-then-d-ne0 c =
     let d = c.declared_at-d in
     let a = c.args in
-    not_taken a.text.now d.new.1.0 d.new.1.1.0 d.new.1.1.1.0 d.new.1.1.1.1.0 d.new.1.1.1.1.1.0 d.new.1.1.1.1.1.1.0 d.result d.ensures c.if-d-ne0.true
+    not_taken a.text.now d.new.elements d.new.contents d.new.ends d.new.attributes d.new.heads d.new.rows d.result d.ensures c.if-d-ne0.true
 
 pub returns : goal.returns
 returns c =
     let d = c.declared_at-d in
     let a = c.args in
-    told a.text.now d.new.1.0 d.new.1.1.0 d.new.1.1.1.0 d.new.1.1.1.1.0 d.new.1.1.1.1.1.0 d.new.1.1.1.1.1.1.0 d.result d.ensures (record { elements_long = d.auto.1.0; contents_long = d.auto.1.1.0; ends_long = d.auto.1.1.1.0; attributes_long = d.auto.1.1.1.1.0; heads_long = d.auto.1.1.1.1.1.0; rows_long = d.auto.1.1.1.1.1.1.0 }) c.if-d-ne0.false
+    told a.text.now d.new.elements d.new.contents d.new.ends d.new.attributes d.new.heads d.new.rows d.result d.ensures (record { elements_long = d.auto.elements; contents_long = d.auto.contents; ends_long = d.auto.ends; attributes_long = d.auto.attributes; heads_long = d.auto.heads; rows_long = d.auto.rows }) c.if-d-ne0.false

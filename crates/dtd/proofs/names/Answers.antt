@@ -30,20 +30,17 @@ pub returns-then-d-ne0 : goal.returns-then-d-ne0
 returns-then-d-ne0 c =
     let d = c.declared_at-d in
     let a = c.args in
-    not_named a.text.now d.new.1.0 d.new.1.1.0 d.new.1.1.1.0 d.new.1.1.1.1.0 d.new.1.1.1.1.1.0 d.new.1.1.1.1.1.1.0 d.result d.ensures a.names.now c.refusal.result c.if-d-ne0.true c.refusal.ensures
+    not_named a.text.now d.new.elements d.new.contents d.new.ends d.new.attributes d.new.heads d.new.rows d.result d.ensures a.names.now c.refusal.result c.if-d-ne0.true c.refusal.ensures
 
 pub put_words-requires : goal.put_words-requires
 put_words-requires c =
     let d = c.declared_at-d in
     let a = c.args in
-    let k = some_names a.text.now d.new.1.0 d.new.1.1.0 d.new.1.1.1.0 d.new.1.1.1.1.0 d.new.1.1.1.1.1.0 d.new.1.1.1.1.1.1.0 d.result d.ensures (record { elements_long = d.auto.1.0; contents_long = d.auto.1.1.0; ends_long = d.auto.1.1.1.0; attributes_long = d.auto.1.1.1.1.0; heads_long = d.auto.1.1.1.1.1.0; rows_long = d.auto.1.1.1.1.1.1.0 }) c.if-d-ne0.false in
+    let k = some_names a.text.now d.new.elements d.new.contents d.new.ends d.new.attributes d.new.heads d.new.rows d.result d.ensures (record { elements_long = d.auto.elements; contents_long = d.auto.contents; ends_long = d.auto.ends; attributes_long = d.auto.attributes; heads_long = d.auto.heads; rows_long = d.auto.rows }) c.if-d-ne0.false in
     search (rules, k)
-
-pub shape_of-names : goal.shape_of-names
-shape_of-names c = c.put_words.auto.1.1.1.1.1.0
 
 pub returns : goal.returns
 returns c =
     let d = c.declared_at-d in
     let a = c.args in
-    named a.text.now d.new.1.0 d.new.1.1.0 d.new.1.1.1.0 d.new.1.1.1.1.0 d.new.1.1.1.1.1.0 d.new.1.1.1.1.1.1.0 d.result d.ensures (record { elements_long = d.auto.1.0; contents_long = d.auto.1.1.0; ends_long = d.auto.1.1.1.0; attributes_long = d.auto.1.1.1.1.0; heads_long = d.auto.1.1.1.1.1.0; rows_long = d.auto.1.1.1.1.1.1.0 }) c.if-d-ne0.false a.names.now c.put_words.new.1.1.1.1.1.0 c.put_words.result c.put_words.ensures
+    named a.text.now d.new.elements d.new.contents d.new.ends d.new.attributes d.new.heads d.new.rows d.result d.ensures (record { elements_long = d.auto.elements; contents_long = d.auto.contents; ends_long = d.auto.ends; attributes_long = d.auto.attributes; heads_long = d.auto.heads; rows_long = d.auto.rows }) c.if-d-ne0.false a.names.now c.put_words.new.names c.put_words.result c.put_words.ensures

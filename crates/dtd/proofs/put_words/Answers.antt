@@ -26,15 +26,12 @@ overflow_cast-count c =
     let a = c.args in
     let m = c.most_room-room in
     let n = c.names_length-n in
-    let k = put_few (listed (names_at a.text.now (take a.count a.elements.now) ++ names_at a.text.now (take a.defined a.attributes.now))) a.names.now m.result n.result m.ensures n.ensures c.put_names-put.new.1.1.1.1.1.0 c.put_names-put.result c.put_names-put.ensures c.if-room-n.false in
+    let k = put_few (listed (names_at a.text.now (take a.count a.elements.now) ++ names_at a.text.now (take a.defined a.attributes.now))) a.names.now m.result n.result m.ensures n.ensures c.put_names-put.new.out c.put_names-put.result c.put_names-put.ensures c.if-room-n.false in
     search (rules, k)
-
-pub shape_of-names : goal.shape_of-names
-shape_of-names c = c.put_names-put.auto.1.1.1.1.1.0
 
 pub returns : goal.returns
 returns c =
     let a = c.args in
     let m = c.most_room-room in
     let n = c.names_length-n in
-    words_put (listed (names_at a.text.now (take a.count a.elements.now) ++ names_at a.text.now (take a.defined a.attributes.now))) a.names.now m.result n.result m.ensures n.ensures c.put_names-put.new.1.1.1.1.1.0 c.put_names-put.result c.put_names-put.ensures c.if-room-n.false
+    words_put (listed (names_at a.text.now (take a.count a.elements.now) ++ names_at a.text.now (take a.defined a.attributes.now))) a.names.now m.result n.result m.ensures n.ensures c.put_names-put.new.out c.put_names-put.result c.put_names-put.ensures c.if-room-n.false

@@ -14,9 +14,6 @@ returns-then-kind-ne-MODEL c = content_alone _ _ _ _ _ _ _ c.requires _ c.kind_a
 pub put_model-requires : goal.put_model-requires
 put_model-requires c = model_ready _ _ _ _ _ _ _ c.requires _ c.kind_at-kind.ensures c.if-kind-ne-MODEL.false
 
-pub shape_of-out : goal.shape_of-out
-shape_of-out c = c.put_model.auto.1.1.1.1.1.0 ∙ simp length-set
-
 pub returns : goal.returns
 returns c =
     content_model _ _ _ _ _ _ _ c.requires _ c.kind_at-kind.ensures c.if-kind-ne-MODEL.false _ _ c.put_model.ensures

@@ -8,8 +8,5 @@ use Rattle.dtd_file.proofs.put_file.Goals as goal
 pub put_elements-requires : goal.put_elements-requires
 put_elements-requires c = search (rules, files_in)
 
-pub shape_of-out : goal.shape_of-out
-shape_of-out c = c.put_elements.auto.1.1.1.1.1.1.0 ∙ simp length-set
-
 pub returns : goal.returns
 returns c = search (rules, file_put)

@@ -13,20 +13,14 @@ pub put_file-n-requires : goal.put_file-n-requires
 put_file-n-requires c =
     let a = c.args in
     let r = c.put_rows in
-    files a.text.now a.elements.now a.contents.now a.ends.now a.attributes.now a.heads.now a.table.now a.count a.defined a.many c.requires.holds a.rows.now a.bytes.now c.requires.ways r.new.1.1.1.1.1.1.1.1.0 r.auto.1.1.1.1.1.1.1.1.0 r.ensures
-
-pub shape_of-rows-then-file-n : goal.shape_of-rows-then-file-n
-shape_of-rows-then-file-n c = c.put_rows.auto.1.1.1.1.1.1.1.1.0
-
-pub shape_of-bytes-then-file-n : goal.shape_of-bytes-then-file-n
-shape_of-bytes-then-file-n c = c.put_file-n.auto.1.1.1.1.1.1.0
+    files a.text.now a.elements.now a.contents.now a.ends.now a.attributes.now a.heads.now a.table.now a.count a.defined a.many c.requires.holds a.rows.now a.bytes.now c.requires.ways r.new.rows r.auto.rows r.ensures
 
 pub returns-then-file-n : goal.returns-then-file-n
 returns-then-file-n c =
     let a = c.args in
     let r = c.put_rows in
     let f = c.put_file-n in
-    schema_no_room a.text.now a.elements.now a.contents.now a.ends.now a.attributes.now a.heads.now a.table.now a.count a.defined a.many c.requires.holds a.rows.now a.bytes.now c.requires.ways r.new.1.1.1.1.1.1.1.1.0 r.auto.1.1.1.1.1.1.1.1.0 r.ensures f.result f.new.1.1.1.1.1.1.0 f.ensures a.file.now c.refusal.result c.if-file-n.true c.refusal.ensures
+    schema_no_room a.text.now a.elements.now a.contents.now a.ends.now a.attributes.now a.heads.now a.table.now a.count a.defined a.many c.requires.holds a.rows.now a.bytes.now c.requires.ways r.new.rows r.auto.rows r.ensures f.result f.new.out f.ensures a.file.now c.refusal.result c.if-file-n.true c.refusal.ensures
 
 pub copy_bytes-requires : goal.copy_bytes-requires
 copy_bytes-requires c =
@@ -34,25 +28,19 @@ copy_bytes-requires c =
     let r = c.put_rows in
     let f = c.put_file-n in
     let l = c.if-file-n.false in
-    (omega arith, in_bytes a.text.now a.elements.now a.contents.now a.ends.now a.attributes.now a.heads.now a.table.now a.count a.defined a.many c.requires.holds a.rows.now a.bytes.now c.requires.ways r.new.1.1.1.1.1.1.1.1.0 r.auto.1.1.1.1.1.1.1.1.0 r.ensures f.result f.new.1.1.1.1.1.1.0 f.ensures a.file.now)
+    (omega arith, in_bytes a.text.now a.elements.now a.contents.now a.ends.now a.attributes.now a.heads.now a.table.now a.count a.defined a.many c.requires.holds a.rows.now a.bytes.now c.requires.ways r.new.rows r.auto.rows r.ensures f.result f.new.out f.ensures a.file.now)
 
 pub overflow_cast-done : goal.overflow_cast-done
 overflow_cast-done c =
     let a = c.args in
     let r = c.put_rows in
     let f = c.put_file-n in
-    let k = fits a.text.now a.elements.now a.contents.now a.ends.now a.attributes.now a.heads.now a.table.now a.count a.defined a.many c.requires.holds a.rows.now a.bytes.now c.requires.ways r.new.1.1.1.1.1.1.1.1.0 r.auto.1.1.1.1.1.1.1.1.0 r.ensures f.result f.new.1.1.1.1.1.1.0 f.ensures a.file.now in
+    let k = fits a.text.now a.elements.now a.contents.now a.ends.now a.attributes.now a.heads.now a.table.now a.count a.defined a.many c.requires.holds a.rows.now a.bytes.now c.requires.ways r.new.rows r.auto.rows r.ensures f.result f.new.out f.ensures a.file.now in
     search (rules, k)
-
-pub shape_of-rows : goal.shape_of-rows
-shape_of-rows c = c.put_rows.auto.1.1.1.1.1.1.1.1.0
-
-pub shape_of-bytes : goal.shape_of-bytes
-shape_of-bytes c = c.put_file-n.auto.1.1.1.1.1.1.0
 
 pub returns : goal.returns
 returns c =
     let a = c.args in
     let r = c.put_rows in
     let f = c.put_file-n in
-    schema_done a.text.now a.elements.now a.contents.now a.ends.now a.attributes.now a.heads.now a.table.now a.count a.defined a.many c.requires.holds a.rows.now a.bytes.now c.requires.ways r.new.1.1.1.1.1.1.1.1.0 r.auto.1.1.1.1.1.1.1.1.0 r.ensures f.result f.new.1.1.1.1.1.1.0 f.ensures a.file.now c.copy_bytes.new.0 c.if-file-n.false c.copy_bytes.ensures
+    schema_done a.text.now a.elements.now a.contents.now a.ends.now a.attributes.now a.heads.now a.table.now a.count a.defined a.many c.requires.holds a.rows.now a.bytes.now c.requires.ways r.new.rows r.auto.rows r.ensures f.result f.new.out f.ensures a.file.now c.copy_bytes.new.dst c.if-file-n.false c.copy_bytes.ensures
