@@ -1,6 +1,6 @@
 /* A host in C that makes a schema file of a DTD's text, as a maker sends it.
  *
- *     cc -Iinclude -o import examples/c/import.c target/staticlib/libshrikemuff.a
+ *     cc -Iinclude -o import examples/c/import.c target/host/libshrikemuff.a
  *     ./import samples/small-shade/shade.dtd -o schema.dat
  *     ./import --names samples/small-shade/shade.dtd
  *

@@ -1,7 +1,7 @@
 /* A host in C that is run before a release: which of the old patterns would the new schema not take? It compares two schema files or two DTD
  * texts, element by element, and says of each what is the shortest sequence of children that would be lost.
  *
- *     cc -Iinclude -o release examples/c/release.c target/staticlib/libshrikemuff.a
+ *     cc -Iinclude -o release examples/c/release.c target/host/libshrikemuff.a
  *     ./release examples/release/old.dat examples/release/new.dat examples/release/names.txt
  *     ./release examples/release/old.dtd examples/release/new.dtd
  *

@@ -2,7 +2,7 @@
  * refused, since it leaves a reference to no ID; all of them as one group are done. It says in words what comes of each step, on the document
  * as it was, and of the group, and then checks the document, which writes its counts anew.
  *
- *     cc -Iinclude -o rename examples/c/rename.c target/staticlib/libshrikemuff.a
+ *     cc -Iinclude -o rename examples/c/rename.c target/host/libshrikemuff.a
  *     ./rename samples/small-shade 20 21
  *
  * Ends with 0 if the group is done, and with 1 if the library, a file, the schema, the document or the group is refused. */

@@ -4,7 +4,7 @@
  * in one call, which ends at the first that is refused; and, of the first document, those that were done, and says whether that gives the
  * document of single edits.
  *
- *     cc -Iinclude -o shade examples/c/shade.c target/staticlib/libshrikemuff.a
+ *     cc -Iinclude -o shade examples/c/shade.c target/host/libshrikemuff.a
  *     ./shade samples/small-shade
  *
  * Ends with 0 once every edit was tried and taken back, and with 1 if the library, a file, the schema or the document is refused, or if the
