@@ -17,7 +17,7 @@ overflow_add-come c = search (rules, come_fits)
 
 pub exchange-requires : goal.exchange-requires
 exchange-requires c =
-    ((search rules, search gone_within, search come_within), (search rules, search follow_enough, search follow_fits))
+    record { table_value = (search rules, search gone_within, search come_within); long = (search rules, search follow_enough, search follow_fits) }
 
 pub returns-then-not-exchange : goal.returns-then-not-exchange
 returns-then-not-exchange c =

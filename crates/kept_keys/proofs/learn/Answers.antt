@@ -4,7 +4,7 @@ use borrow.Author.Rules.{rules}
 use Rattle.kept_keys.proofs.learn.Goals as goal
 
 pub enter-requires : goal.enter-requires
-enter-requires c = (search rules, (search rules, search learn_room))
+enter-requires c = record { table_value = search rules; long = (search rules, search learn_room) }
 
 pub returns : goal.returns
 returns c = search learn_keeps

@@ -6,7 +6,7 @@ use Rattle.keys.specs.Answer.{fault_twice, fault_dangling}
 use Rattle.keys.proofs.fault_from.Goals as goal
 
 pub mark_ids-marked-requires : goal.mark_ids-marked-requires
-mark_ids-marked-requires c = (search rules, (c.requires.begun, (refl, field_empty 1024)))
+mark_ids-marked-requires c = record { table_value = search rules; begun = c.requires.begun; field_len = (refl, field_empty 1024) }
 
 pub returns-then-marked-ne0 : goal.returns-then-marked-ne0
 returns-then-marked-ne0 c = search fault_twice

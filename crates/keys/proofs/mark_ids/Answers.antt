@@ -27,7 +27,7 @@ loop-place-smaller c = search among_less
 pub loop-place-preserved : goal.loop-place-preserved
 loop-place-preserved c =
     among_more c.args.table.now c.args.doc.now c.args.used c.loop-place.invariant c.requires.table_value.1 c.is_value_at.ensures
-    c.loop-place-test.true c.is_id-id.ensures c.number.ensures c.note.ensures c.note.auto.0 c.if-note.false
+    c.loop-place-test.true c.is_id-id.ensures c.number.ensures c.note.ensures c.note.auto.field c.if-note.false
 
 pub counted-refs-requires : goal.counted-refs-requires
 counted-refs-requires c = search (rules, going_few)
