@@ -1,5 +1,6 @@
 -- `edits::edit_shaped` meets its contract. Assumes nothing.
-use mathlib.Core.Path.{sym}
+use mathlib.Core.Bool.{not}
+use mathlib.Core.Path.{sym, ap}
 use native.Mathlib.Omega.{arith}
 use lib.Seq.{length-take-le}
 use Rattle.edits.specs.Outcomes.{edit_form, edit_short, edit_counts, edit_put, edit_fault, edit_done, ready_few, ready_room, ready_long, ready_within, ready_inner, ready_at, ready_front, ready_comes, ready_under, ready_cut, ready_needs, ready_most}
@@ -52,7 +53,7 @@ returns-then-not-carried c =
     let a = c.args in
     let f = c.form_of-f.ensures in
     let z = c.if-f-ne-DONE.false in
-    edit_counts a.operation a.place a.piece.now a.doc.now a.used a.table.now a.back.now a.counts.now f z (ready_needs a.operation a.place a.piece.now a.doc.now a.used c.requires.1 f z c.need-room.ensures) (omega (arith, c.if-back-room.false)) c.requires.1 c.carried.ensures c.if-not-carried.true c.refused-then-not-carried.ensures
+    edit_counts a.operation a.place a.piece.now a.doc.now a.used a.table.now a.back.now a.counts.now f z (ready_needs a.operation a.place a.piece.now a.doc.now a.used c.requires.1 f z c.need-room.ensures) (omega (arith, c.if-back-room.false)) c.requires.1 c.carried.ensures (ap not c.if-not-carried.true) c.refused-then-not-carried.ensures
 
 pub judged-seen-requires : goal.judged-seen-requires
 judged-seen-requires c =
@@ -66,7 +67,7 @@ returns-then-seen-ne-DONE c =
     let a = c.args in
     let f = c.form_of-f.ensures in
     let z = c.if-f-ne-DONE.false in
-    edit_fault a.operation a.place a.piece.now a.doc.now a.used a.table.now a.back.now a.counts.now f z (ready_needs a.operation a.place a.piece.now a.doc.now a.used c.requires.1 f z c.need-room.ensures) (omega (arith, c.if-back-room.false)) c.requires.1 c.carried.ensures c.if-not-carried.false c.judged-seen.ensures
+    edit_fault a.operation a.place a.piece.now a.doc.now a.used a.table.now a.back.now a.counts.now f z (ready_needs a.operation a.place a.piece.now a.doc.now a.used c.requires.1 f z c.need-room.ensures) (omega (arith, c.if-back-room.false)) c.requires.1 c.carried.ensures (ap not c.if-not-carried.false) c.judged-seen.ensures
     (λ z. absurd (omega (arith, c.if-seen-ne-DONE.true))) c.refused-then-seen-ne-DONE.ensures
 
 pub slice_bounds-note-end : goal.slice_bounds-note-end
@@ -91,10 +92,10 @@ put-requires c =
     let a = c.args in
     let f = c.form_of-f.ensures in
     let z = c.if-f-ne-DONE.false in
-    edit_put a.operation a.place a.piece.now a.doc.now a.used a.table.now a.back.now a.counts.now f z (ready_needs a.operation a.place a.piece.now a.doc.now a.used c.requires.1 f z c.need-room.ensures) (omega (arith, c.if-back-room.false)) c.requires.1 c.carried.ensures c.if-not-carried.false
+    edit_put a.operation a.place a.piece.now a.doc.now a.used a.table.now a.back.now a.counts.now f z (ready_needs a.operation a.place a.piece.now a.doc.now a.used c.requires.1 f z c.need-room.ensures) (omega (arith, c.if-back-room.false)) c.requires.1 c.carried.ensures (ap not c.if-not-carried.false)
 
 pub slice_bounds-commit-end : goal.slice_bounds-commit-end
-slice_bounds-commit-end c = sym c.form_of-f.auto.1.1.1.1.1.0
+slice_bounds-commit-end c = sym c.form_of-f.auto.new
 
 pub commit-requires : goal.commit-requires
 commit-requires c =
@@ -110,5 +111,5 @@ returns c =
     let a = c.args in
     let f = c.form_of-f.ensures in
     let z = c.if-f-ne-DONE.false in
-    edit_done a.operation a.place a.piece.now a.doc.now a.used a.table.now a.back.now a.counts.now f z (ready_needs a.operation a.place a.piece.now a.doc.now a.used c.requires.1 f z c.need-room.ensures) (omega (arith, c.if-back-room.false)) c.requires.1 c.carried.ensures c.if-not-carried.false c.judged-seen.ensures
+    edit_done a.operation a.place a.piece.now a.doc.now a.used a.table.now a.back.now a.counts.now f z (ready_needs a.operation a.place a.piece.now a.doc.now a.used c.requires.1 f z c.need-room.ensures) (omega (arith, c.if-back-room.false)) c.requires.1 c.carried.ensures (ap not c.if-not-carried.false) c.judged-seen.ensures
     c.if-seen-ne-DONE.false c.note.ensures c.put.ensures c.commit.ensures.0 c.commit.ensures.1

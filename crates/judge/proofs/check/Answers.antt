@@ -1,4 +1,6 @@
 -- `judge::check` meets its contract. Assumes nothing.
+use mathlib.Core.Bool.{not}
+use mathlib.Core.Path.{ap}
 use Rattle.judge.specs.Check.{is_proper, shape_fits, check_table, check_shape, check_judged}
 use Rattle.judge.proofs.check.Goals as goal
 
@@ -10,8 +12,8 @@ returns-then-not-shape c = search check_shape
 
 pub judged_whole-requires : goal.judged_whole-requires
 judged_whole-requires c =
-    let f = shape_fits c.args.doc.now c.args.used c.shape.ensures c.if-not-shape.false in
-    (is_proper c.args.table.now c.proper.ensures c.if-not-proper.false, f.long, f.few)
+    let f = shape_fits c.args.doc.now c.args.used c.shape.ensures (ap not c.if-not-shape.false) in
+    (is_proper c.args.table.now c.proper.ensures (ap not c.if-not-proper.false), f.long, f.few)
 
 pub returns : goal.returns
 returns c = search check_judged

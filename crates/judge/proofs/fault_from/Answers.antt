@@ -17,7 +17,7 @@ returns-then-not-front c = search fault_attributes
 
 pub overflow_cast-result : goal.overflow_cast-result
 overflow_cast-result c =
-    let h = stop_within _ _ c.args.doc.now c.args.used _ c.requires.used_in_bounds.0 c.attributes-front.ensures.within c.content-walk.ensures.stops c.stop-1.given.1 in
+    let h = stop_within _ _ c.args.doc.now c.args.used _ c.requires.used_in_bounds.0 c.attributes-front.ensures.within c.content-walk.ensures.stops c.in-At.is in
     omega (arith, h, c.requires.used_in_bounds)
 
 pub returns-in-Nowhere : goal.returns-in-Nowhere

@@ -6,7 +6,7 @@ use Rattle.judge.proofs.judged_whole.Goals as goal
 
 pub first_fault-elements-requires : goal.first_fault-elements-requires
 first_fault-elements-requires c =
-    (c.requires.0, (closed c.args.doc.now c.args.used _ c.requires.1 c.closes.ensures, (c.requires.1, c.requires.2, omega arith)))
+    record { table_value = c.requires.0; closed = closed c.args.doc.now c.args.used _ c.requires.1 c.closes.ensures; used_in_bounds = (c.requires.1, c.requires.2, omega arith) }
 
 pub returns : goal.returns
 returns c = search whole_judged

@@ -11,10 +11,10 @@ pub next_edit-answer-requires : goal.next_edit-answer-requires
 next_edit-answer-requires c = (c.requires.0, c.requires.1, c.requires.3)
 
 pub shape_of-doc : goal.shape_of-doc
-shape_of-doc c = c.next_edit-answer.auto.1.0
+shape_of-doc c = c.next_edit-answer.auto.doc
 
 pub shape_of-new : goal.shape_of-new
-shape_of-new c = c.next_edit-answer.auto.1.1.1.1.1.1.1.0
+shape_of-new c = c.next_edit-answer.auto.new
 
 pub returns : goal.returns
 returns c = first_of _ _ _ _ _ c.edit_at-e.ensures c.next_edit-answer.ensures

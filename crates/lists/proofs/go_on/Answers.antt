@@ -17,16 +17,16 @@ kept_edit-last-requires c =
     ((g.table_good, g.going.shape, g.going.places), (g.sound, g.keeps))
 
 pub shape_of-doc-then-last-ne-DONE : goal.shape_of-doc-then-last-ne-DONE
-shape_of-doc-then-last-ne-DONE c = c.kept_edit-last.auto.1.0 ∙ c.loop-at.invariant.going.long
+shape_of-doc-then-last-ne-DONE c = c.kept_edit-last.auto.doc ∙ c.loop-at.invariant.going.long
 
 pub shape_of-new-then-last-ne-DONE : goal.shape_of-new-then-last-ne-DONE
-shape_of-new-then-last-ne-DONE c = c.kept_edit-last.auto.1.1.1.1.1.1.1.0 ∙ c.loop-at.invariant.same_new
+shape_of-new-then-last-ne-DONE c = c.kept_edit-last.auto.new ∙ c.loop-at.invariant.same_new
 
 pub shape_of-field-then-last-ne-DONE : goal.shape_of-field-then-last-ne-DONE
-shape_of-field-then-last-ne-DONE c = c.kept_edit-last.auto.1.1.1.1.1.1.1.1.0 ∙ c.loop-at.invariant.same_field
+shape_of-field-then-last-ne-DONE c = c.kept_edit-last.auto.field ∙ c.loop-at.invariant.same_field
 
 pub shape_of-referred-then-last-ne-DONE : goal.shape_of-referred-then-last-ne-DONE
-shape_of-referred-then-last-ne-DONE c = c.kept_edit-last.auto.1.1.1.1.1.1.1.1.1.0 ∙ c.loop-at.invariant.same_referred
+shape_of-referred-then-last-ne-DONE c = c.kept_edit-last.auto.referred ∙ c.loop-at.invariant.same_referred
 
 pub returns-then-last-ne-DONE : goal.returns-then-last-ne-DONE
 returns-then-last-ne-DONE c =
@@ -50,7 +50,7 @@ loop-at-preserved c =
     let g = c.loop-at.invariant in
     let h = c.loop-at-test.true in
     let o = c.edit_at-e.ensures in
-    kept_next _ _ _ _ _ g h o c.kept_edit-last.ensures.counts_after c.if-last-ne-DONE.false c.kept_edit-last.ensures.goes c.kept_edit-last.auto.1.0 c.kept_edit-last.auto.1.1.1.1.1.1.1.0 c.kept_edit-last.auto.1.1.1.1.1.1.1.1.0 c.kept_edit-last.auto.1.1.1.1.1.1.1.1.1.0
+    kept_next _ _ _ _ _ g h o c.kept_edit-last.ensures.counts_after c.if-last-ne-DONE.false c.kept_edit-last.ensures.goes c.kept_edit-last.auto.doc c.kept_edit-last.auto.new c.kept_edit-last.auto.field c.kept_edit-last.auto.referred
 
 pub shape_of-doc : goal.shape_of-doc
 shape_of-doc c = c.loop-at.invariant.going.long

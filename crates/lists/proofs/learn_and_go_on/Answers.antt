@@ -19,10 +19,10 @@ go_on-requires c =
     (part_begun a.table.now a.doc.now a.used a.list.now a.from c.requires.0, c.learn.ensures)
 
 pub shape_of-doc : goal.shape_of-doc
-shape_of-doc c = c.go_on.auto.1.0
+shape_of-doc c = c.go_on.auto.doc
 
 pub shape_of-new : goal.shape_of-new
-shape_of-new c = c.go_on.auto.1.1.1.1.1.0
+shape_of-new c = c.go_on.auto.new
 
 pub returns : goal.returns
 returns c =

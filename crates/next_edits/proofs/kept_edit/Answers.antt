@@ -1,4 +1,6 @@
 -- `next_edits::kept_edit` meets its contract. Assumes nothing.
+use mathlib.Core.Bool.{not}
+use mathlib.Core.Path.{ap}
 use native.Mathlib.Omega.{arith}
 use Rattle.form.specs.Form.{shaped_few, shaped_long}
 use Rattle.edits.specs.Outcomes.{ready_few, ready_room, ready_long, ready_within, ready_at, ready_front, ready_under, ready_inner}
@@ -39,7 +41,7 @@ returns-then-not-carried c =
     let a = c.args in
     let f = c.form_of-f.ensures in
     let z = c.if-f-ne-DONE.false in
-    (next_counts a.operation a.place a.piece.now a.table.now a.doc.now a.used a.counts.now c.requires.table_value.0 c.requires.table_value.1 f z c.carried.ensures c.if-not-carried.true c.refused-then-not-carried.ensures, goes_refused _ _ _ _ (λ y. absurd (omega (arith, y))) c.refused-then-not-carried.ensures)
+    (next_counts a.operation a.place a.piece.now a.table.now a.doc.now a.used a.counts.now c.requires.table_value.0 c.requires.table_value.1 f z c.carried.ensures (ap not c.if-not-carried.true) c.refused-then-not-carried.ensures, goes_refused _ _ _ _ (λ y. absurd (omega (arith, y))) c.refused-then-not-carried.ensures)
 
 pub judged_kept-seen-requires : goal.judged_kept-seen-requires
 judged_kept-seen-requires c =
@@ -49,7 +51,7 @@ judged_kept-seen-requires c =
     ((c.requires.table_value.0, edit_in_form a.operation a.place a.piece.now a.doc.now a.used a.table.now c.requires.table_value.1 c.requires.doc_value.0 f z), c.requires.doc_value.1)
 
 pub shape_of-new-then-seen-ne-DONE : goal.shape_of-new-then-seen-ne-DONE
-shape_of-new-then-seen-ne-DONE c = c.form_of-f.auto.1.1.1.1.1.0
+shape_of-new-then-seen-ne-DONE c = c.form_of-f.auto.new
 
 pub returns-then-seen-ne-DONE : goal.returns-then-seen-ne-DONE
 returns-then-seen-ne-DONE c =
@@ -57,14 +59,14 @@ returns-then-seen-ne-DONE c =
     let f = c.form_of-f.ensures in
     let z = c.if-f-ne-DONE.false in
     let k = c.judged_kept-seen.ensures in
-    (next_fault a.operation a.place a.piece.now a.table.now a.doc.now a.used a.counts.now c.requires.table_value.0 c.requires.table_value.1 f z c.carried.ensures c.if-not-carried.false k.judged (λ y. absurd (omega (arith, c.if-seen-ne-DONE.true))) c.refused-then-seen-ne-DONE.ensures, goes_refused _ _ _ _ (λ y. absurd (omega (arith, c.if-seen-ne-DONE.true))) c.refused-then-seen-ne-DONE.ensures)
+    (next_fault a.operation a.place a.piece.now a.table.now a.doc.now a.used a.counts.now c.requires.table_value.0 c.requires.table_value.1 f z c.carried.ensures (ap not c.if-not-carried.false) k.judged (λ y. absurd (omega (arith, c.if-seen-ne-DONE.true))) c.refused-then-seen-ne-DONE.ensures, goes_refused _ _ _ _ (λ y. absurd (omega (arith, c.if-seen-ne-DONE.true))) c.refused-then-seen-ne-DONE.ensures)
 
 pub put-requires : goal.put-requires
 put-requires c =
     let a = c.args in
     let f = c.form_of-f.ensures in
     let z = c.if-f-ne-DONE.false in
-    next_put a.operation a.place a.piece.now a.table.now a.doc.now a.used a.counts.now c.requires.table_value.0 c.requires.table_value.1 f z c.carried.ensures c.if-not-carried.false
+    next_put a.operation a.place a.piece.now a.table.now a.doc.now a.used a.counts.now c.requires.table_value.0 c.requires.table_value.1 f z c.carried.ensures (ap not c.if-not-carried.false)
 
 pub commit-requires : goal.commit-requires
 commit-requires c =
@@ -76,13 +78,13 @@ commit-requires c =
     )
 
 pub shape_of-new : goal.shape_of-new
-shape_of-new c = c.form_of-f.auto.1.1.1.1.1.0
+shape_of-new c = c.form_of-f.auto.new
 
 pub shape_of-field : goal.shape_of-field
-shape_of-field c = c.judged_kept-seen.auto.1.1.1.1.1.1.0
+shape_of-field c = c.judged_kept-seen.auto.field
 
 pub shape_of-referred : goal.shape_of-referred
-shape_of-referred c = c.judged_kept-seen.auto.1.1.1.1.1.1.1.0
+shape_of-referred c = c.judged_kept-seen.auto.referred
 
 pub returns : goal.returns
 returns c =
@@ -92,6 +94,6 @@ returns c =
     let k = c.judged_kept-seen.ensures in
     let y = c.if-seen-ne-DONE.false in
     let w = c.commit.ensures in (
-      next_done a.operation a.place a.piece.now a.table.now a.doc.now a.used a.counts.now c.requires.table_value.0 c.requires.table_value.1 f z c.carried.ensures c.if-not-carried.false k.judged y c.put.ensures w.0 w.1,
+      next_done a.operation a.place a.piece.now a.table.now a.doc.now a.used a.counts.now c.requires.table_value.0 c.requires.table_value.1 f z c.carried.ensures (ap not c.if-not-carried.false) k.judged y c.put.ensures w.0 w.1,
       goes_done a.table.now a.doc.now a.used (ready_long a.operation a.place a.piece.now a.doc.now a.used c.requires.table_value.1 f z) k y w.0 w.1,
     )

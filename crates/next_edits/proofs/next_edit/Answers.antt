@@ -1,4 +1,6 @@
 -- `next_edits::next_edit` meets its contract. Assumes nothing.
+use mathlib.Core.Bool.{not}
+use mathlib.Core.Path.{ap}
 use native.Mathlib.Omega.{arith}
 use Rattle.form.specs.Form.{shaped_few, shaped_long}
 use Rattle.edits.specs.Outcomes.{ready_few, ready_room, ready_long, ready_within, ready_at, ready_front, ready_comes, ready_under, ready_inner}
@@ -37,7 +39,7 @@ returns-then-not-carried c =
     let a = c.args in
     let f = c.form_of-f.ensures in
     let z = c.if-f-ne-DONE.false in
-    next_counts a.operation a.place a.piece.now a.table.now a.doc.now a.used a.counts.now c.requires.0 c.requires.1 f z c.carried.ensures c.if-not-carried.true c.refused-then-not-carried.ensures
+    next_counts a.operation a.place a.piece.now a.table.now a.doc.now a.used a.counts.now c.requires.0 c.requires.1 f z c.carried.ensures (ap not c.if-not-carried.true) c.refused-then-not-carried.ensures
 
 pub judged-seen-requires : goal.judged-seen-requires
 judged-seen-requires c =
@@ -51,14 +53,14 @@ returns-then-seen-ne-DONE c =
     let a = c.args in
     let f = c.form_of-f.ensures in
     let z = c.if-f-ne-DONE.false in
-    next_fault a.operation a.place a.piece.now a.table.now a.doc.now a.used a.counts.now c.requires.0 c.requires.1 f z c.carried.ensures c.if-not-carried.false c.judged-seen.ensures (λ y. absurd (omega (arith, c.if-seen-ne-DONE.true))) c.refused-then-seen-ne-DONE.ensures
+    next_fault a.operation a.place a.piece.now a.table.now a.doc.now a.used a.counts.now c.requires.0 c.requires.1 f z c.carried.ensures (ap not c.if-not-carried.false) c.judged-seen.ensures (λ y. absurd (omega (arith, c.if-seen-ne-DONE.true))) c.refused-then-seen-ne-DONE.ensures
 
 pub put-requires : goal.put-requires
 put-requires c =
     let a = c.args in
     let f = c.form_of-f.ensures in
     let z = c.if-f-ne-DONE.false in
-    next_put a.operation a.place a.piece.now a.table.now a.doc.now a.used a.counts.now c.requires.0 c.requires.1 f z c.carried.ensures c.if-not-carried.false
+    next_put a.operation a.place a.piece.now a.table.now a.doc.now a.used a.counts.now c.requires.0 c.requires.1 f z c.carried.ensures (ap not c.if-not-carried.false)
 
 pub commit-requires : goal.commit-requires
 commit-requires c =
@@ -70,11 +72,11 @@ commit-requires c =
     )
 
 pub shape_of-new : goal.shape_of-new
-shape_of-new c = c.form_of-f.auto.1.1.1.1.1.0
+shape_of-new c = c.form_of-f.auto.new
 
 pub returns : goal.returns
 returns c =
     let a = c.args in
     let f = c.form_of-f.ensures in
     let z = c.if-f-ne-DONE.false in
-    next_done a.operation a.place a.piece.now a.table.now a.doc.now a.used a.counts.now c.requires.0 c.requires.1 f z c.carried.ensures c.if-not-carried.false c.judged-seen.ensures c.if-seen-ne-DONE.false c.put.ensures c.commit.ensures.0 c.commit.ensures.1
+    next_done a.operation a.place a.piece.now a.table.now a.doc.now a.used a.counts.now c.requires.0 c.requires.1 f z c.carried.ensures (ap not c.if-not-carried.false) c.judged-seen.ensures c.if-seen-ne-DONE.false c.put.ensures c.commit.ensures.0 c.commit.ensures.1
