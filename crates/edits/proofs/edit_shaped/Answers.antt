@@ -60,7 +60,7 @@ judged-seen-requires c =
     let a = c.args in
     let f = c.form_of-f.ensures in
     let z = c.if-f-ne-DONE.false in
-    (c.requires.0, ((ready_long a.operation a.place a.piece.now a.doc.now a.used c.requires.1 f z, ready_few a.operation a.place a.piece.now a.doc.now a.used c.requires.1 f z, ready_within a.operation a.place a.piece.now a.doc.now a.used c.requires.1 f z), ready_comes a.operation a.place a.piece.now a.doc.now a.used c.requires.1 f z))
+    record { table_value = c.requires.0; used_in_bounds = (ready_long a.operation a.place a.piece.now a.doc.now a.used c.requires.1 f z, ready_few a.operation a.place a.piece.now a.doc.now a.used c.requires.1 f z, ready_within a.operation a.place a.piece.now a.doc.now a.used c.requires.1 f z); comes = ready_comes a.operation a.place a.piece.now a.doc.now a.used c.requires.1 f z }
 
 pub returns-then-seen-ne-DONE : goal.returns-then-seen-ne-DONE
 returns-then-seen-ne-DONE c =
@@ -85,7 +85,7 @@ note-requires c =
     let a = c.args in
     let f = c.form_of-f.ensures in
     let z = c.if-f-ne-DONE.false in
-    (ready_cut a.operation a.place a.piece.now a.doc.now a.used c.requires.1 f z, omega (arith, (ready_needs a.operation a.place a.piece.now a.doc.now a.used c.requires.1 f z c.need-room.ensures), c.if-back-room.false))
+    record { cuts = ready_cut a.operation a.place a.piece.now a.doc.now a.used c.requires.1 f z; doc_in_bounds = omega (arith, (ready_needs a.operation a.place a.piece.now a.doc.now a.used c.requires.1 f z c.need-room.ensures), c.if-back-room.false) }
 
 pub put-requires : goal.put-requires
 put-requires c =
@@ -101,10 +101,8 @@ pub commit-requires : goal.commit-requires
 commit-requires c =
     let a = c.args in
     let f = c.form_of-f.ensures in
-    let z = c.if-f-ne-DONE.false in (
-      (ready_at a.operation a.place a.piece.now a.doc.now a.used c.requires.1 f z, ready_room a.operation a.place a.piece.now a.doc.now a.used c.requires.1 f z, ready_long a.operation a.place a.piece.now a.doc.now a.used c.requires.1 f z, shaped_long a.doc.now a.used c.requires.1, ready_front a.operation a.place a.piece.now a.doc.now a.used c.requires.1 f z),
-      (shaped_few a.doc.now a.used c.requires.1, ready_few a.operation a.place a.piece.now a.doc.now a.used c.requires.1 f z),
-    )
+    let z = c.if-f-ne-DONE.false in
+    record { at_le_end = (ready_at a.operation a.place a.piece.now a.doc.now a.used c.requires.1 f z, ready_room a.operation a.place a.piece.now a.doc.now a.used c.requires.1 f z, ready_long a.operation a.place a.piece.now a.doc.now a.used c.requires.1 f z, shaped_long a.doc.now a.used c.requires.1, ready_front a.operation a.place a.piece.now a.doc.now a.used c.requires.1 f z); used_le_most_tokens = (shaped_few a.doc.now a.used c.requires.1, ready_few a.operation a.place a.piece.now a.doc.now a.used c.requires.1 f z) }
 
 pub returns : goal.returns
 returns c =

@@ -10,4 +10,4 @@ pub slice_bounds-follow-end-2 : goal.slice_bounds-follow-end-2
 slice_bounds-follow-end-2 c = search new_part
 
 pub follow-requires : goal.follow-requires
-follow-requires c = (search rules, search follow_change)
+follow-requires c = record { table_value = search rules; change = search follow_change }

@@ -14,7 +14,7 @@ edit_at-e-requires c = kept_within _ _ _ _ _ c.loop-at.invariant c.loop-at-test.
 pub kept_edit-last-requires : goal.kept_edit-last-requires
 kept_edit-last-requires c =
     let g = c.loop-at.invariant in
-    ((g.table_good, g.going.shape, g.going.places), (g.sound, g.keeps))
+    record { table_value = (g.table_good, g.going.shape, g.going.places); doc_value = (g.sound, g.keeps) }
 
 pub shape_of-doc-then-last-ne-DONE : goal.shape_of-doc-then-last-ne-DONE
 shape_of-doc-then-last-ne-DONE c = c.kept_edit-last.auto.doc ∙ c.loop-at.invariant.going.long

@@ -16,7 +16,7 @@ learn-requires c = (search rules, search begun_few, empty_zeros)
 pub go_on-requires : goal.go_on-requires
 go_on-requires c =
     let a = c.args in
-    (part_begun a.table.now a.doc.now a.used a.list.now a.from c.requires.0, c.learn.ensures)
+    record { begun = part_begun a.table.now a.doc.now a.used a.list.now a.from c.requires.0; keeps = c.learn.ensures }
 
 pub shape_of-doc : goal.shape_of-doc
 shape_of-doc c = c.go_on.auto.doc

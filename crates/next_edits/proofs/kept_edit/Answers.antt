@@ -48,7 +48,7 @@ judged_kept-seen-requires c =
     let a = c.args in
     let f = c.form_of-f.ensures in
     let z = c.if-f-ne-DONE.false in
-    ((c.requires.table_value.0, edit_in_form a.operation a.place a.piece.now a.doc.now a.used a.table.now c.requires.table_value.1 c.requires.doc_value.0 f z), c.requires.doc_value.1)
+    record { table_value = (c.requires.table_value.0, edit_in_form a.operation a.place a.piece.now a.doc.now a.used a.table.now c.requires.table_value.1 c.requires.doc_value.0 f z); keeps = c.requires.doc_value.1 }
 
 pub shape_of-new-then-seen-ne-DONE : goal.shape_of-new-then-seen-ne-DONE
 shape_of-new-then-seen-ne-DONE c = c.form_of-f.auto.new
@@ -72,10 +72,8 @@ pub commit-requires : goal.commit-requires
 commit-requires c =
     let a = c.args in
     let f = c.form_of-f.ensures in
-    let z = c.if-f-ne-DONE.false in (
-      (ready_at a.operation a.place a.piece.now a.doc.now a.used c.requires.table_value.1 f z, ready_room a.operation a.place a.piece.now a.doc.now a.used c.requires.table_value.1 f z, ready_long a.operation a.place a.piece.now a.doc.now a.used c.requires.table_value.1 f z, shaped_long a.doc.now a.used c.requires.table_value.1, ready_front a.operation a.place a.piece.now a.doc.now a.used c.requires.table_value.1 f z),
-      (shaped_few a.doc.now a.used c.requires.table_value.1, ready_few a.operation a.place a.piece.now a.doc.now a.used c.requires.table_value.1 f z),
-    )
+    let z = c.if-f-ne-DONE.false in
+    record { at_le_end = (ready_at a.operation a.place a.piece.now a.doc.now a.used c.requires.table_value.1 f z, ready_room a.operation a.place a.piece.now a.doc.now a.used c.requires.table_value.1 f z, ready_long a.operation a.place a.piece.now a.doc.now a.used c.requires.table_value.1 f z, shaped_long a.doc.now a.used c.requires.table_value.1, ready_front a.operation a.place a.piece.now a.doc.now a.used c.requires.table_value.1 f z); used_le_most_tokens = (shaped_few a.doc.now a.used c.requires.table_value.1, ready_few a.operation a.place a.piece.now a.doc.now a.used c.requires.table_value.1 f z) }
 
 pub shape_of-new : goal.shape_of-new
 shape_of-new c = c.form_of-f.auto.new

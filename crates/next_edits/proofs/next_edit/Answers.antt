@@ -46,7 +46,7 @@ judged-seen-requires c =
     let a = c.args in
     let f = c.form_of-f.ensures in
     let z = c.if-f-ne-DONE.false in
-    (c.requires.0, ((ready_long a.operation a.place a.piece.now a.doc.now a.used c.requires.1 f z, ready_few a.operation a.place a.piece.now a.doc.now a.used c.requires.1 f z, ready_within a.operation a.place a.piece.now a.doc.now a.used c.requires.1 f z), ready_comes a.operation a.place a.piece.now a.doc.now a.used c.requires.1 f z))
+    record { table_value = c.requires.0; used_in_bounds = (ready_long a.operation a.place a.piece.now a.doc.now a.used c.requires.1 f z, ready_few a.operation a.place a.piece.now a.doc.now a.used c.requires.1 f z, ready_within a.operation a.place a.piece.now a.doc.now a.used c.requires.1 f z); comes = ready_comes a.operation a.place a.piece.now a.doc.now a.used c.requires.1 f z }
 
 pub returns-then-seen-ne-DONE : goal.returns-then-seen-ne-DONE
 returns-then-seen-ne-DONE c =
@@ -66,10 +66,8 @@ pub commit-requires : goal.commit-requires
 commit-requires c =
     let a = c.args in
     let f = c.form_of-f.ensures in
-    let z = c.if-f-ne-DONE.false in (
-      (ready_at a.operation a.place a.piece.now a.doc.now a.used c.requires.1 f z, ready_room a.operation a.place a.piece.now a.doc.now a.used c.requires.1 f z, ready_long a.operation a.place a.piece.now a.doc.now a.used c.requires.1 f z, shaped_long a.doc.now a.used c.requires.1, ready_front a.operation a.place a.piece.now a.doc.now a.used c.requires.1 f z),
-      (shaped_few a.doc.now a.used c.requires.1, ready_few a.operation a.place a.piece.now a.doc.now a.used c.requires.1 f z),
-    )
+    let z = c.if-f-ne-DONE.false in
+    record { at_le_end = (ready_at a.operation a.place a.piece.now a.doc.now a.used c.requires.1 f z, ready_room a.operation a.place a.piece.now a.doc.now a.used c.requires.1 f z, ready_long a.operation a.place a.piece.now a.doc.now a.used c.requires.1 f z, shaped_long a.doc.now a.used c.requires.1, ready_front a.operation a.place a.piece.now a.doc.now a.used c.requires.1 f z); used_le_most_tokens = (shaped_few a.doc.now a.used c.requires.1, ready_few a.operation a.place a.piece.now a.doc.now a.used c.requires.1 f z) }
 
 pub shape_of-new : goal.shape_of-new
 shape_of-new c = c.form_of-f.auto.new

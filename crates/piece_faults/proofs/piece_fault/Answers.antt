@@ -5,7 +5,7 @@ use Rattle.piece_faults.proofs.piece_fault.Goals as goal
 
 pub within-fault-requires : goal.within-fault-requires
 within-fault-requires c =
-    (c.requires.table_value, part_fits c.args.table.now c.args.doc.now c.args.at c.args.coming c.requires.coming_in_bounds.0 c.requires.coming_in_bounds.1 (omega (arith, c.if-coming-le-SHORT.true)))
+    record { table_value = c.requires.table_value; piece_len_bound = part_fits c.args.table.now c.args.doc.now c.args.at c.args.coming c.requires.coming_in_bounds.0 c.requires.coming_in_bounds.1 (omega (arith, c.if-coming-le-SHORT.true)) }
 
 pub moved-requires : goal.moved-requires
 moved-requires c =
@@ -16,7 +16,7 @@ returns-then-coming-le-SHORT c = search piece_moved
 
 pub within-fault-requires-2 : goal.within-fault-requires-2
 within-fault-requires-2 c =
-    (c.requires.table_value, part_fits c.args.table.now c.args.doc.now c.args.at c.args.coming c.requires.coming_in_bounds.0 c.requires.coming_in_bounds.1 (omega arith))
+    record { table_value = c.requires.table_value; piece_len_bound = part_fits c.args.table.now c.args.doc.now c.args.at c.args.coming c.requires.coming_in_bounds.0 c.requires.coming_in_bounds.1 (omega arith) }
 
 pub moved-requires-2 : goal.moved-requires-2
 moved-requires-2 c =

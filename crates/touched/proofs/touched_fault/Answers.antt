@@ -11,7 +11,7 @@ returns-then-at-parent c = search touched_alone
 
 pub element_fault-over-requires : goal.element_fault-over-requires
 element_fault-over-requires c =
-    (c.requires.table_value, (closed_none c.args.doc.now c.args.used [] refl, (c.requires.used_in_bounds.0, c.requires.used_in_bounds.1)))
+    record { table_value = c.requires.table_value; closed = closed_none c.args.doc.now c.args.used [] refl; used_in_bounds = (c.requires.used_in_bounds.0, c.requires.used_in_bounds.1) }
 
 pub returns-then-over-ne-DONE : goal.returns-then-over-ne-DONE
 returns-then-over-ne-DONE c = search touched_parent
@@ -19,7 +19,7 @@ returns-then-over-ne-DONE c = search touched_parent
 pub with_piece-requires-2 : goal.with_piece-requires-2
 with_piece-requires-2 c =
     let few = parent_few c.args.table.now c.args.doc.now c.args.used c.args.parent c.requires.used_in_bounds.0 c.requires.used_in_bounds.1 c.element_fault-over.ensures c.if-over-ne-DONE.false in
-    (c.requires.table_value, (omega (arith, c.requires.used_in_bounds), omega (arith, c.requires.used_in_bounds), few))
+    record { table_value = c.requires.table_value; coming_in_bounds = (omega (arith, c.requires.used_in_bounds), omega (arith, c.requires.used_in_bounds), few) }
 
 pub returns : goal.returns
 returns c = search touched_piece
