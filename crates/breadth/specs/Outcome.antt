@@ -1,5 +1,5 @@
 -- What the search answers. Assumes nothing.
-use Rattle.std.specs.Prelude.{◌≡◌, Bool, true, false, not, ◌&&◌, List, ℕ, ◌≤◌, ◌<◌, length, get_or}
+use Rattle.std.specs.Prelude.{◌≡◌, Bool, true, false, not, ◌&&◌, List, ℕ, ◌≤◌, ◌<◌, get_or}
 use Rattle.std.proofs.Common.{sym, ◌∙◌, arith}
 use Rattle.paper.specs.Basics.{sequence_places}
 use Rattle.paper.specs.Inclusion.{Compared, answered}

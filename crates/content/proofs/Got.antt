@@ -3,12 +3,10 @@ use mathlib.Core.Path.{◌≡◌, refl, sym, ap, ap₂, ◌∙◌, subst}
 use mathlib.Core.Bool.{Bool, true, false, not, ◌&&◌, ◌||◌}
 use mathlib.Core.List.{List, ◌∷◌, ◌++◌, append_assoc}
 use Prim.Native.Nat.{ℕ, ◌+◌, ◌-◌, ◌≤◌, ◌<◌}
-use native.Mathlib.Numerals.{add-one}
 use native.Mathlib.Omega.{arith}
 use native.Mathlib.Decide.{ℕ_discrete}
 use borrow.Author.Tests.{not-true, not-false, eq-eqb, ne_eqb}
 use lib.Dec.{eqb}
-use lib.Seq.{drop-cons}
 use lib.ListN.{length, drop, get_or, length-append, length-drop}
 use lib.Bits.{bit_or}
 use Rattle.paper.specs.Basics.{most_names}

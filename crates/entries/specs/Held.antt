@@ -1,6 +1,6 @@
 -- The entries that a slice holds, and one more. Assumes nothing.
-use Rattle.std.specs.Prelude.{◌≡◌, refl, List, [], ◌∷◌, ◌++◌, map, ℕ, zero, suc, ◌+◌, ◌-◌, ◌*◌, ◌≤◌, ◌<◌, length, take, drop, set, get_or, replicate}
-use Rattle.std.proofs.Common.{sym, ap, ap₂, ◌∙◌, append_assoc, append-nil, arith, add-one, length-append, length-set, take_at, drop_at, drop-drop}
+use Rattle.std.specs.Prelude.{◌≡◌, refl, List, [], ◌∷◌, ◌++◌, map, ℕ, zero, suc, ◌+◌, ◌-◌, ◌*◌, ◌≤◌, ◌<◌, length, drop, set, get_or, replicate}
+use Rattle.std.proofs.Common.{sym, ap, ap₂, ◌∙◌, arith, add-one, length-append, length-set, take_at, drop_at, drop-drop}
 use Rattle.std.proofs.Math.Numerals.{add-two}
 use Rattle.std.proofs.lemmas.List.Edits.{sets, sets-eq}
 use Rattle.paper.specs.Basics.{most_fixed, concat}

@@ -1,5 +1,5 @@
 -- The whole schema in a table, and what is translated. Assumes nothing.
-use Rattle.std.specs.Prelude.{◌≡◌, ℕ, ◌+◌, ◌-◌, ◌≤◌, ◌<◌, take, set, get_or, replicate}
+use Rattle.std.specs.Prelude.{◌≡◌, ℕ, ◌+◌, ◌-◌, ◌≤◌, ◌<◌, set, get_or, replicate}
 use Rattle.std.proofs.Math.Path.{refl, ap, ap₂}
 use Rattle.std.proofs.Common.{◌∙◌, arith, eq-eqb, ne_eqb, length-set, take_at}
 use mathlib.Core.List.{List, [], ◌∷◌, ◌++◌, map, append-nil}

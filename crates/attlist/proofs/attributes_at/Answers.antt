@@ -1,5 +1,4 @@
 -- `attlist::attributes_at` meets its contract. The loop's invariant is `Listing`; the measure is how many attributes are left. Assumes nothing.
-use Prim.Native.Nat.{◌-◌}
 use Rattle.attlist.specs.Attributes.{list_none, list_kept, list_stop, list_room, list_low, list_more, list_end}
 use Rattle.attlist.proofs.attributes_at.Goals as goal
 

@@ -1,5 +1,4 @@
 -- `breadth::expand` meets its contract. The loop's invariant is `Trying`; the measure is how many names are left. Assumes nothing.
-use Prim.Native.Nat.{◌-◌}
 use Rattle.breadth.specs.Try.{try_pair, try_nowhere, try_met, new_places, try_new, try_all}
 use Rattle.breadth.proofs.expand.Goals as goal
 

@@ -1,6 +1,5 @@
 -- `breadth::search` meets its contract. The loop's invariant is `Going`, with the buffer as it was; the measure is how many pairs are left. Assumes nothing.
 use mathlib.Core.Path.{refl, ap}
-use Prim.Native.Nat.{◌-◌}
 use native.Mathlib.Omega.{arith}
 use lib.ListN.{length}
 use Rattle.breadth.specs.Turn.{go_begin, go_pair}

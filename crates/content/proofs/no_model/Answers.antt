@@ -1,6 +1,5 @@
 -- `no_model` meets its contract. The loop: the words before place k are 0. Assumes nothing.
 use mathlib.Core.Path.{refl}
-use Prim.Native.Nat.{◌-◌}
 use Rattle.content.proofs.Modelled.{none_blanked, more_blanked, all_blanked}
 use Rattle.content.proofs.no_model.Goals as goal
 

@@ -1,5 +1,4 @@
 -- `contentspec::check_symbols` meets its contract. The loop's invariant is `Passing`; the measure is how many symbols are left. Assumes nothing.
-use Prim.Native.Nat.{◌-◌}
 use borrow.Author.Rules.{rules}
 use Rattle.contentspec.specs.Symbols.{passed_none, passed_stop, passed_one, passed_all}
 use Rattle.contentspec.proofs.check_symbols.Goals as goal

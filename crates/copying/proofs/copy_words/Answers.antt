@@ -1,5 +1,4 @@
 -- `copying::copy_words` meets its contract. The measure is how many turns are left. Assumes nothing.
-use Prim.Native.Nat.{◌-◌}
 use Rattle.copying.specs.Turns.{copy_none, copy_more, copy_end}
 use Rattle.copying.proofs.copy_words.Goals as goal
 

@@ -1,5 +1,4 @@
 -- `docfile::decode` meets its contract. The loop's invariant is `Decoding`; the measure is what is left of the file. Assumes nothing.
-use Prim.Native.Nat.{◌-◌}
 use Rattle.docfile.specs.Reader.{decode_none, decode_end, decode_broken, decode_less, decode_full, decode_place, decode_more}
 use Rattle.docfile.proofs.decode.Goals as goal
 

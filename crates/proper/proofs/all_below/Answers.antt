@@ -1,5 +1,4 @@
 -- `all_below` meets its contract. The loop: the test so far, and that of the words that are left, is the whole. Assumes nothing.
-use Prim.Native.Nat.{◌-◌}
 use borrow.Author.Rules.{rules}
 use lib.Dec.{ltb}
 use Rattle.zeros.specs.Rest.{all_next, all_none}

@@ -1,5 +1,4 @@
 -- `proper_blocks` meets its contract. The loop: the blocks below e are proper. Assumes nothing.
-use Prim.Native.Nat.{◌-◌}
 use native.Mathlib.Omega.{arith}
 use borrow.Author.Rules.{rules}
 use Rattle.table.specs.Block.{block_length_lem}

@@ -1,5 +1,4 @@
 -- `schema::put_elements` meets its contract. The loop's invariant is `Laying`; the measure is how many elements are left. Assumes nothing.
-use Prim.Native.Nat.{◌-◌}
 use borrow.Author.Rules.{rules}
 use Rattle.schema.specs.Elements.{lay_none, lay_room, lay_zeros, lay_same, lay_fixed, lay_left, lay_stop, lay_more, lay_kept, lay_end}
 use Rattle.schema.proofs.put_elements.Goals as goal

@@ -1,5 +1,4 @@
 -- `union_of` meets its contract. The loop: the union of the words that are left, with the members found, is the whole. Assumes nothing.
-use Prim.Native.Nat.{◌-◌}
 use borrow.Author.Rules.{rules}
 use Rattle.zeros.specs.Union.{union_with}
 use Rattle.zeros.specs.Rest.{rest_next, rest_none}
