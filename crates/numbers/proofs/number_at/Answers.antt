@@ -8,13 +8,13 @@ pub returns-then-at-s : goal.returns-then-at-s
 returns-then-at-s c = search first_end
 
 pub overflow_cast-a : goal.overflow_cast-a
-overflow_cast-a c = omega (arith, c.shared_slice_known-2-1.given c.args.at)
+overflow_cast-a c = omega (arith, c.type_inv.s c.args.at)
 
 pub returns-then-a-lt128 : goal.returns-then-a-lt128
 returns-then-a-lt128 c = search (first_last, arith)
 
 pub second_at-requires : goal.second_at-requires
-second_at-requires c = omega (arith, c.shared_slice_known-2-1.given c.args.at)
+second_at-requires c = omega (arith, c.type_inv.s c.args.at)
 
 pub returns : goal.returns
 returns c = search (first_more, arith)

@@ -7,7 +7,7 @@ pub returns-then-at-s : goal.returns-then-at-s
 returns-then-at-s c = search (later_end (by_third c.args.v))
 
 pub overflow_cast-c : goal.overflow_cast-c
-overflow_cast-c c = omega (arith, c.shared_slice_known-1.given c.args.at)
+overflow_cast-c c = omega (arith, c.type_inv.s c.args.at)
 
 pub returns-then-c-eq0 : goal.returns-then-c-eq0
 returns-then-c-eq0 c = search (later_zero (by_third c.args.v))
