@@ -4,7 +4,7 @@ use Rattle.std.proofs.Common.{inl, inr}
 use Rattle.paper.specs.Expressions.{Expr, alt, count}
 use Rattle.paper.specs.Sets.{last, follow}
 use Rattle.content_laws.specs.Within.{Within, apart, last_within, follow_within}
-use Rattle.paper.specs.Rules.{start, at}
+use Rattle.paper.specs.Rules.{start}
 use Rattle.basic_laws.specs.Tests.{or_iff, tests}
 use Rattle.content_laws.specs.Walk.{Walk, carry}
 

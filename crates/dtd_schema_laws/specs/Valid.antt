@@ -1,6 +1,6 @@
 -- A document is valid by the schema of a text exactly if it is valid by the text: "the translated table then judges by the text's own
 -- expressions". Assumes nothing.
-use Rattle.std.specs.Prelude.{◌≡◌, refl, ◌↔◌, ◌⊎◌, Bool, true, List, [], ◌∷◌, ◌++◌, ℕ, zero, T, eqb, take}
+use Rattle.std.specs.Prelude.{◌≡◌, refl, ◌↔◌, ◌⊎◌, Bool, true, List, ◌∷◌, ◌++◌, ℕ, zero, T, eqb, take}
 use Rattle.std.proofs.Common.{sym, ap, subst, ◌∙◌, inl, inr, arith}
 use Rattle.std.proofs.Math.Logic.Iff
 use Rattle.std.proofs.Math.Option.{none, some}

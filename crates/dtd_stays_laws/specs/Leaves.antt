@@ -4,7 +4,6 @@ use Rattle.std.proofs.Common.{ap, subst, sym, ◌∙◌, append-nil, arith}
 use Rattle.paper.specs.Dtd.Letters.{is_white, is_first, is_more, run, past, first_of_two, first_of_three, first_of_four, hyphen, word_cdata, word_id, word_required, word_implied}
 use Rattle.paper.specs.Dtd.Declarations.{once, maybe, many, several, Kind, cdata, id, idref, idrefs, required, implied}
 use Rattle.paper.specs.Dtd.Grammar.{kind_word}
-use Rattle.paper.specs.Dtd.Grammar as G
 use Rattle.paper.specs.Dtd.Readers.{Read, stop, ok, Reader, outside, onward, tested}
 use Rattle.paper.specs.Dtd.Readers as R
 use Rattle.dtd_laws.specs.Exact.{never}

@@ -1,10 +1,10 @@
 -- The children that a done edit looks at are no more than those of the parent and the piece's tokens. Assumes nothing.
-use Rattle.std.specs.Prelude.{◌≡◌, Bool, true, false, cond, List, [], ◌∷◌, ◌++◌, ℕ, ◌+◌, ◌≤◌, eqb, length, take, drop}
+use Rattle.std.specs.Prelude.{Bool, true, false, cond, List, [], ℕ, ◌+◌, ◌≤◌, eqb, length, take, drop}
 use Rattle.std.proofs.Common.{arith}
 use Rattle.std.proofs.lemmas.List.{length-map}
 use Rattle.paper.specs.declared.Tok.{Tok}
 use Rattle.paper.specs.Tokens.{toks, tok_of}
-use Rattle.paper.specs.Edits.{by_operation, opens, splice_at, splice_cut, coming}
+use Rattle.paper.specs.Edits.{opens, splice_at, splice_cut, coming}
 use Rattle.shape_laws.specs.Depth.{count_few}
 use Rattle.shape_laws.specs.EditJudged.{form_iff}
 use Rattle.shape_laws.specs.Widths.{own_is}

@@ -1,11 +1,11 @@
 -- Item 7, proved of the paper's calls: true counts stay true, 15, the check and the question. Assumes nothing.
 use Rattle.std.specs.Prelude.{◌≡◌, ◌↔◌, ◌≢◌, Bool, cond, List, [], ◌∷◌, ltb, leb, eqb, ℤ, pos, nat_abs, length, get_or, take}
 use Rattle.std.proofs.Math.Path.{refl, ap}
-use Rattle.std.proofs.Common.{sym, ◌∙◌, inl, inr, arith, eqb-true, ne_eqb, lt-ltb, le-ltb}
+use Rattle.std.proofs.Common.{sym, ◌∙◌, inl, inr, arith, ne_eqb, lt-ltb, le-ltb}
 use Rattle.std.proofs.Math.Bool.{true, false}
-use Prim.Native.Nat.{ℕ, zero, suc, ◌≤◌, ◌<◌}
+use Prim.Native.Nat.{ℕ, zero, suc}
 use Rattle.std.proofs.Math.Decide.{ℕ_discrete}
-use Rattle.paper.specs.Basics.{most_tokens, most_elements, between, all}
+use Rattle.paper.specs.Basics.{between, all}
 use Rattle.paper.specs.Table.{proper}
 use Rattle.paper.specs.Tokens.{toks}
 use Rattle.paper.specs.Shape.{shape_of}
@@ -14,7 +14,7 @@ use Rattle.paper.specs.Rules.{of_table}
 use Rattle.paper.specs.Judgement.{Answer, judge, check}
 use Rattle.paper.specs.Requests.{Request, good_piece, good_place, edited, touched_by}
 use Rattle.paper.specs.Back.{needs}
-use Rattle.paper.specs.Counts.{tally, counted, elements_in, fresh, TrueCounts, checked_counts, moved, count_good, elements_of}
+use Rattle.paper.specs.Counts.{tally, elements_in, fresh, TrueCounts, checked_counts, moved, count_good, elements_of}
 use Rattle.paper.specs.Edits.{Outcome, Made, made, refused, done, fits, form_fault, or_next, size_fault, limit_fault, answered, editing, outcome, edit_by, edit}
 use Rattle.paper.specs.Lists as paper
 use Rattle.paper.specs.Lists.{Split, fault, edits, split_list, Listed, run_list, lent_with, next_edit, number_of, edit_list}

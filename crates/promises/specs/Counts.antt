@@ -1,17 +1,16 @@
 -- Item 7, "How many panels?": what is promised, stated of any calls. That a done edit moves the counts stands in `Left`, that a refused one
 -- leaves them in `Kept`, that true counts are true after every edit in `Right` and after every list in `ListRight`, and that they are given
 -- back by the way back in `UndoDone` (Right, Lists, Undo). Assumes nothing.
-use Rattle.std.specs.Prelude.{◌≡◌, ◌↔◌, ◌≢◌, true, false, List, [], ℕ, ◌≤◌, ◌<◌, ℤ, pos, length, take, get_or}
+use Rattle.std.specs.Prelude.{◌≡◌, ◌↔◌, ◌≢◌, true, false, List, ℕ, ◌≤◌, ◌<◌, ℤ, pos, length, take, get_or}
 use Rattle.paper.specs.Basics.{most_elements, all}
-use Rattle.paper.specs.Schema.{Schema}
 use Rattle.paper.specs.Table.{proper}
 use Rattle.paper.specs.Tokens.{toks}
 use Rattle.paper.specs.Shape.{shape_of}
-use Rattle.paper.specs.Trees.{Forest, flat, IsTree, tree_of}
+use Rattle.paper.specs.Trees.{IsTree, tree_of}
 use Rattle.paper.specs.Rules.{of_table}
 use Rattle.paper.specs.Judgement.{Answer}
 use Rattle.paper.specs.Requests.{Request}
-use Rattle.paper.specs.Counts.{elements_in, fresh, TrueCounts, moved, count_good}
+use Rattle.paper.specs.Counts.{elements_in, TrueCounts, moved, count_good}
 use Rattle.paper.specs.Edits.{Outcome, size_fault}
 use Rattle.paper.specs.Lists.{Listed}
 use Rattle.paper.specs.Answers.{Answers, elements_answers}

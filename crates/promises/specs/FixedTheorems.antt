@@ -2,13 +2,13 @@
 use Rattle.std.specs.Prelude.{◌≡◌, refl, Bool, true, false, cond, ◌&&◌, List, [], ◌∷◌, ◌++◌, ℕ, zero, suc, T, eqb, get_or}
 use Rattle.std.proofs.Common.{sym, ap, ◌∙◌, subst, arith, eqb-true, ne_eqb}
 use Rattle.std.proofs.Math.Bool.{and-eq-true_iff}
-use Rattle.std.proofs.Math.Option.{Option, none, some}
+use Rattle.std.proofs.Math.Option.{some}
 use Rattle.paper.specs.Basics.{first_with, some_of}
 use Rattle.paper.specs.Schema.{Attribute, is_fixed, Element}
 use Rattle.paper.specs.Table.{of_kind, is_required}
 use Rattle.paper.specs.Rules.{undeclared, has, fixed_to}
 use Rattle.basic_laws.specs.Tests.{true_iff}
-use Rattle.table_laws.specs.Accepted.{Fixes, Rising, fixed_fine, GoodElement, GoodAll, none_left, one_more, schema_good}
+use Rattle.table_laws.specs.Accepted.{Fixes, Rising, fixed_fine, GoodAll, none_left, one_more, schema_good}
 use Rattle.table_laws.specs.ProperSets.{at_own}
 use Rattle.promises.specs.Fixed as promised
 

@@ -1,15 +1,14 @@
 -- The promises of item 9 of the paper's call, with their proofs. Assumes nothing.
 use Rattle.std.specs.Prelude.{◌≡◌, refl, ◌↔◌, ◌⊎◌, ◌≢◌, Bool, true, false, cond, List, [], ◌∷◌, ◌++◌, ℕ, suc, ◌+◌, ◌-◌, ◌≤◌, eqb, pos, ◌-ℤ◌, length, take, drop, replicate}
-use Rattle.std.proofs.Common.{sym, ap, ap₂, ◌∙◌, inl, inr, append-nil, arith, eqb-true, ne_eqb, le-leb, length-take-le}
+use Rattle.std.proofs.Common.{sym, ap, ◌∙◌, inl, inr, append-nil, arith, eqb-true, ne_eqb, le-leb, length-take-le}
 use Rattle.std.proofs.Math.Decide.{ℕ_discrete}
 use Rattle.std.proofs.lemmas.Bool.{eqb-false, lt-leb}
 use Rattle.std.proofs.Math.Seq.{take-length}
 use Rattle.paper.specs.Schema.{Schema}
-use Rattle.paper.specs.Tokens.{toks}
-use Rattle.paper.specs.Rules.{Rules, of_schema, of_table}
-use Rattle.paper.specs.Judgement.{Answer, judge, whole, checking}
+use Rattle.paper.specs.Rules.{of_schema, of_table}
+use Rattle.paper.specs.Judgement.{Answer, checking}
 use Rattle.paper.specs.Validity.{ValidDocument}
-use Rattle.paper.specs.Edits.{Request, form_fault, written}
+use Rattle.paper.specs.Edits.{Request, written}
 use Rattle.paper.specs.Lists.{edits, split_list}
 use Rattle.shape_laws.specs.Shaped.{shaped}
 use Rattle.paper.specs.Groups.{Work, worked, GroupOutcome, verdict, reached_in, copied, stopped, begun, group, after, AllInForm}
@@ -19,7 +18,7 @@ use Rattle.group_laws.specs.Kept as laws
 use Rattle.group_laws.specs.Numbers.{group_answers_lem}
 use Rattle.promises.specs.Calls.{papers}
 use Rattle.promises.specs.Statements.{Translated}
-use Rattle.promises.specs.Groups.{InOrder, Begins, FirstKept, Stops, SecondHolds, FirstRefused, GroupRight, GroupDeterminate, GroupAnswers, GroupOrder, GroupKeeps, GroupSecond, GroupLengths}
+use Rattle.promises.specs.Groups.{Begins, FirstKept, Stops, SecondHolds, GroupRight, GroupDeterminate, GroupAnswers, GroupOrder, GroupKeeps, GroupSecond, GroupLengths}
 use Rattle.promises.specs.Written.{written_valid}
 use Rattle.promises.specs.ByTable.{table_proper, table_reads}
 

@@ -1,6 +1,6 @@
 -- Item 8, fixed attributes, by computing: documents by a schema with some, files that are taken and refused, and tables with one number
 -- changed. Assumes nothing.
-use Rattle.std.specs.Prelude.{◌≡◌, refl, Bool, true, false, cond, not, ◌&&◌, List, [], ◌∷◌, ◌++◌, map, ℕ, eqb, length, set}
+use Rattle.std.specs.Prelude.{◌≡◌, refl, Bool, true, false, cond, not, List, [], ◌∷◌, ◌++◌, map, ℕ, eqb, set}
 use Rattle.paper.specs.Basics.{all, concat, from}
 use Rattle.paper.specs.Files.{file_of}
 use Rattle.paper.specs.Schema.{Schema, Parsed, stop, ok, refusal_of, schema_of}

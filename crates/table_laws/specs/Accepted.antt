@@ -4,7 +4,7 @@ use Rattle.std.proofs.Common.{sym, ap, ◌∙◌, subst, arith, leb-true, le-leb
 use Rattle.std.proofs.Math.Option.{Option, none, some}
 use Rattle.paper.specs.Basics.{most_number, most_elements, most_names, most_attributes, most_fixed, between, all, cons_if}
 use Rattle.paper.specs.Schema.{most_symbols, expr_of, Attribute, is_fixed, fixed_in, Content, model, Element, Schema, ok, pure, refuse, number, numbers, modelled, content_as, kind_after, most_status, value_after, attributes_from, element, elements_of, schema_of}
-use Rattle.paper.specs.Table.{Entry, entries_of, entries_from}
+use Rattle.paper.specs.Table.{entries_of, entries_from}
 use Rattle.basic_laws.specs.Bools.{clash, both}
 use Rattle.content_laws.specs.Symbols.{expr_of_iff, range_names}
 use Rattle.paper.specs.Expressions.{Expr, names, count}

@@ -11,7 +11,7 @@ use Rattle.std.proofs.Math.ListN.{length, length-append}
 use Rattle.std.proofs.lemmas.List.{length-replicate, length-map}
 use Rattle.paper.specs.Basics.{most_number, most_elements, most_names, most_fixed, all, some_of, from, pad, concat}
 use Rattle.paper.specs.Schema.{Attribute, is_fixed, Content, empty, text, model, Element, Schema}
-use Rattle.paper.specs.Table.{table_length, block_length, fixed_at, allowed_at, required_at, id_at, idref_at, idrefs_at, names_at, follow_at, block, cell, Entry, entry_length, fixed_part, set_of, of_kind, is_required, block_of, blocks_of, entries_from, entry_numbers, fixed_numbers, table_of}
+use Rattle.paper.specs.Table.{table_length, block_length, fixed_at, allowed_at, required_at, id_at, idref_at, idrefs_at, names_at, follow_at, block, cell, Entry, entry_length, set_of, of_kind, is_required, block_of, blocks_of, entries_from, entry_numbers, fixed_numbers, table_of}
 use Rattle.paper.specs.Table.{zeros, proper_next, proper_model, proper_block, rising_from, proper_entry, proper_fixed, proper}
 use Rattle.paper.specs.Rules.{undeclared, element_at}
 use Rattle.paper.specs.Expressions.{Expr, names, count, Ambiguous}
