@@ -74,7 +74,7 @@ pub record Trying (old new : List ℕ) (E : ℕ) (seen met from name : List ℕ)
   pub here : p ≡ (pairs old new).number x.pair
   pub ends : suc head + length todo ≡ tail
   pub behind : length done ≡ head
-  pub up_to_lem : a ≤ E
+  pub up_to : a ≤ E
   pub answer : searched (pairs old new) E sequence_places
       ≡ found (pairs old new) E (sequence_places - suc head) (expand (pairs old new) x a (E - a) (queue seen todo)).seen (expand (pairs old new) x a (E - a) (queue seen todo)).todo
   pub met_long : length met ≡ sequence_places

@@ -57,7 +57,7 @@ module _ {old new : List ℕ} {E : ℕ} {seen met from name : List ℕ} {head ta
         here = g.here;
         ends = t;
         behind = g.behind;
-        up_to_lem = h;
+        up_to = h;
         answer = (rw z at g.answer) ∙ ap left_over e;
         met_long = m;
         from_long = f;
@@ -132,7 +132,7 @@ module _ {old new : List ℕ} {E : ℕ} {seen met from name : List ℕ} {head ta
   -- every name was tried
   pub try_all : E ≤ a → Going old new E seen met from name (head + 1) tail
   try_all h =
-      let c : a ≡ E = let u = g.up_to_lem in omega arith in
+      let c : a ≡ E = let u = g.up_to in omega arith in
       let z : E - a ≡ 0 = omega arith in
       rw add-one (record {
         blocks = g.blocks;

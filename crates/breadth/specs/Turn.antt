@@ -137,7 +137,7 @@ module _ {old new : List ℕ} {E : ℕ} where
           here = f.here;
           ends = omega arith;
           behind = f.behind;
-          up_to_lem = omega arith;
+          up_to = omega arith;
           answer = f.answer ∙ (rw (fuel f, l, z));
           met_long = g.met_long;
           from_long = g.from_long;
