@@ -26,7 +26,7 @@ returns-then-e-ne-DONE c =
 pub make-a-requires : goal.make-a-requires
 make-a-requires c =
     let e = c.edit_at-e in
-    omega (arith, e.ensures.few, e.auto.1.1.0, c.loop-from.invariant.places)
+    omega (arith, e.ensures.few, e.auto.piece, c.loop-from.invariant.places)
 
 pub put_line-to-requires : goal.put_line-to-requires
 put_line-to-requires c = go_room _ _ _ _ _ _ _ c.loop-from.invariant c.loop-from-test.true c.requires.1 c.requires.2
@@ -43,7 +43,7 @@ loop-from-preserved c =
     let e = c.edit_at-e in
     let d = c.make-a in
     let p = c.put_line-to.ensures in
-    go_more _ _ _ _ _ _ _ l c.loop-from-test.true e.ensures c.if-e-ne-DONE.false c.requires.0 d.ensures d.auto.1.0 d.auto.1.1.1.1.1.0 (e.auto.1.1.0 ∙ l.places) p.0 p.1
+    go_more _ _ _ _ _ _ _ l c.loop-from-test.true e.ensures c.if-e-ne-DONE.false c.requires.0 d.ensures d.auto.doc d.auto.back (e.auto.piece ∙ l.places) p.put p.upper_bound
 
 pub returns : goal.returns
 returns c = go_end _ _ _ _ _ _ _ c.loop-from.invariant (search rules)

@@ -16,7 +16,7 @@ returns-then-v-ne-DONE c =
 pub put_edits-requires : goal.put_edits-requires
 put_edits-requires c =
     let p = c.put_line-next.ensures in
-    (c.requires.0, c.requires.1, put_length p.0 ∙ c.requires.2, omega (arith, p.1))
+    (c.requires.0, c.requires.1, put_length p.put ∙ c.requires.2, omega (arith, p.upper_bound))
 
 pub returns : goal.returns
 returns c =
