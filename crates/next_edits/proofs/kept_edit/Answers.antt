@@ -13,7 +13,7 @@ pub returns-then-f-ne-DONE : goal.returns-then-f-ne-DONE
 returns-then-f-ne-DONE c =
     let a = c.args in
     let f = c.form_of-f.ensures in
-    (next_form a.operation a.place a.piece.now a.table.now a.doc.now a.used a.counts.now c.requires.table_value.0 c.requires.table_value.1 f (λ y. absurd (omega (arith, c.if-f-ne-DONE.true))) c.refused.ensures, goes_refused _ _ _ _ (λ y. absurd (omega (arith, c.if-f-ne-DONE.true))) c.refused.ensures)
+    record { counts_after = next_form a.operation a.place a.piece.now a.table.now a.doc.now a.used a.counts.now c.requires.table_value.0 c.requires.table_value.1 f (λ y. absurd (omega (arith, c.if-f-ne-DONE.true))) c.refused.ensures; goes = goes_refused _ _ _ _ (λ y. absurd (omega (arith, c.if-f-ne-DONE.true))) c.refused.ensures }
 
 pub overflow_add-cut : goal.overflow_add-cut
 overflow_add-cut c =
@@ -41,7 +41,7 @@ returns-then-not-carried c =
     let a = c.args in
     let f = c.form_of-f.ensures in
     let z = c.if-f-ne-DONE.false in
-    (next_counts a.operation a.place a.piece.now a.table.now a.doc.now a.used a.counts.now c.requires.table_value.0 c.requires.table_value.1 f z c.carried.ensures (ap not c.if-not-carried.true) c.refused-then-not-carried.ensures, goes_refused _ _ _ _ (λ y. absurd (omega (arith, y))) c.refused-then-not-carried.ensures)
+    record { counts_after = next_counts a.operation a.place a.piece.now a.table.now a.doc.now a.used a.counts.now c.requires.table_value.0 c.requires.table_value.1 f z c.carried.ensures (ap not c.if-not-carried.true) c.refused-then-not-carried.ensures; goes = goes_refused _ _ _ _ (λ y. absurd (omega (arith, y))) c.refused-then-not-carried.ensures }
 
 pub judged_kept-seen-requires : goal.judged_kept-seen-requires
 judged_kept-seen-requires c =
@@ -59,7 +59,7 @@ returns-then-seen-ne-DONE c =
     let f = c.form_of-f.ensures in
     let z = c.if-f-ne-DONE.false in
     let k = c.judged_kept-seen.ensures in
-    (next_fault a.operation a.place a.piece.now a.table.now a.doc.now a.used a.counts.now c.requires.table_value.0 c.requires.table_value.1 f z c.carried.ensures (ap not c.if-not-carried.false) k.judged (λ y. absurd (omega (arith, c.if-seen-ne-DONE.true))) c.refused-then-seen-ne-DONE.ensures, goes_refused _ _ _ _ (λ y. absurd (omega (arith, c.if-seen-ne-DONE.true))) c.refused-then-seen-ne-DONE.ensures)
+    record { counts_after = next_fault a.operation a.place a.piece.now a.table.now a.doc.now a.used a.counts.now c.requires.table_value.0 c.requires.table_value.1 f z c.carried.ensures (ap not c.if-not-carried.false) k.judged (λ y. absurd (omega (arith, c.if-seen-ne-DONE.true))) c.refused-then-seen-ne-DONE.ensures; goes = goes_refused _ _ _ _ (λ y. absurd (omega (arith, c.if-seen-ne-DONE.true))) c.refused-then-seen-ne-DONE.ensures }
 
 pub put-requires : goal.put-requires
 put-requires c =
@@ -82,7 +82,7 @@ pub shape_of-field : goal.shape_of-field
 shape_of-field c = c.judged_kept-seen.auto.field
 
 pub shape_of-referred : goal.shape_of-referred
-shape_of-referred c = c.judged_kept-seen.auto.referred
+shape_of-referred c = c.judged_kept-seen.auto.counts
 
 pub returns : goal.returns
 returns c =
@@ -91,7 +91,5 @@ returns c =
     let z = c.if-f-ne-DONE.false in
     let k = c.judged_kept-seen.ensures in
     let y = c.if-seen-ne-DONE.false in
-    let w = c.commit.ensures in (
-      next_done a.operation a.place a.piece.now a.table.now a.doc.now a.used a.counts.now c.requires.table_value.0 c.requires.table_value.1 f z c.carried.ensures (ap not c.if-not-carried.false) k.judged y c.put.ensures w.0 w.1,
-      goes_done a.table.now a.doc.now a.used (ready_long a.operation a.place a.piece.now a.doc.now a.used c.requires.table_value.1 f z) k y w.0 w.1,
-    )
+    let w = c.commit.ensures in
+    record { counts_after = next_done a.operation a.place a.piece.now a.table.now a.doc.now a.used a.counts.now c.requires.table_value.0 c.requires.table_value.1 f z c.carried.ensures (ap not c.if-not-carried.false) k.judged y c.put.ensures w.0 w.1; goes = goes_done a.table.now a.doc.now a.used (ready_long a.operation a.place a.piece.now a.doc.now a.used c.requires.table_value.1 f z) k y w.0 w.1 }
