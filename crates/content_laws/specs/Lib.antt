@@ -1,4 +1,4 @@
--- Content models and Glushkov's sets. What is proved stands in `Theorems`; the definitions that it speaks of are the paper's
+-- Content models and Glushkov's sets. What is proved stands in proofs/Theorems; the definitions that it speaks of are the paper's
 -- (Expressions, Sets, Matching, Schema) and, for the automaton, those of Walk and Run.
 pub mod Names
 pub mod Meaning
@@ -7,16 +7,9 @@ pub mod Rename
 pub mod Marked
 pub mod Within
 pub mod Walk
-pub mod Seq
-pub mod Alt
-pub mod Star
-pub mod Glushkov
 pub mod Useful
 pub mod Matching
-pub mod Begins
 pub mod Ambiguity
 pub mod Below
-pub mod Decide
 pub mod Run
 pub mod Words
-pub mod Theorems

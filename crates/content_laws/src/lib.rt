@@ -1,2 +1,2 @@
-// The theory of content models, in specs/: see specs/Theorems.antt. There is no code here.
+// The theory of content models, in specs/ and proofs/: see proofs/Theorems.antt. There is no code here.
 #![tactic(auto)]

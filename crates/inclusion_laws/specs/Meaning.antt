@@ -6,7 +6,7 @@ use Rattle.paper.specs.Schema.{Content, empty, text, model, Schema}
 use Rattle.paper.specs.Table.{kind_number}
 use Rattle.paper.specs.Rules.{element_at, described_by, of_schema}
 use Rattle.paper.specs.Inclusion.{takes, Takes}
-use Rattle.content_laws.specs.Theorems.{matching}
+use Rattle.content_laws.proofs.Theorems.{matching}
 
 null_iff : (w : List ℕ) → T (null w) ↔ (w ≡ [])
 null_iff [] = (λ t. refl, λ e. tt)

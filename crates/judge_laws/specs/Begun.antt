@@ -17,7 +17,7 @@ use Rattle.paper.specs.Judgement.{no_text, named, text_or_none, content, content
 use Rattle.paper.specs.Validity.{ContentValid, StopsAt, Begun}
 use Rattle.basic_laws.specs.Tests.{and_iff}
 use Rattle.content_laws.specs.Useful.{some_word}
-use Rattle.content_laws.specs.Begins.{begins_iff}
+use Rattle.content_laws.proofs.Begins.{begins_iff}
 use Rattle.judge_laws.specs.Contents.{item, items, null_iff, text_iff, to_starts, of_starts}
 use Rattle.judge_laws.specs.Stops.{stops_iff}
 

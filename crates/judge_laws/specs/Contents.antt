@@ -14,7 +14,7 @@ use Rattle.paper.specs.Rules.{element_at, described_by, of_schema}
 use Rattle.paper.specs.Judgement.{no_text, named, text_or_none, content, content_good}
 use Rattle.paper.specs.Validity.{ContentValid}
 use Rattle.basic_laws.specs.Tests.{and_iff}
-use Rattle.content_laws.specs.Matching.{matches_iff}
+use Rattle.content_laws.proofs.Matching.{matches_iff}
 
 -- ---- children are starts and texts
 

@@ -7,7 +7,7 @@ use Rattle.paper.specs.SchemaWritten.{formed}
 use Rattle.paper.specs.Rules.{of_schema}
 use Rattle.paper.specs.Judgement.{Answer, checking}
 use Rattle.paper.specs.Validity.{ValidDocument}
-use Rattle.content_laws.specs.Theorems as content
+use Rattle.content_laws.proofs.Theorems as content
 use Rattle.shape_laws.specs.Tree.{shape_is_tree}
 use Rattle.shape_laws.specs.TreeDepth as tree-depth
 use Rattle.schema_laws.specs.Written.{bytes_of_lem}

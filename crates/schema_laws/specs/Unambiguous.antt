@@ -7,7 +7,7 @@ use Rattle.paper.specs.Expressions.{Expr, Ambiguous}
 use Rattle.paper.specs.Sets.{ambiguous}
 use Rattle.paper.specs.Schema.{Content, empty, text, model, Element}
 use Rattle.paper.specs.SchemaWritten.{formed_element, formed_elements, Unambiguous}
-use Rattle.content_laws.specs.Decide.{decides}
+use Rattle.content_laws.proofs.Decide.{decides}
 use Rattle.basic_laws.specs.Tests.{true_iff}
 use Rattle.schema_laws.specs.Contents.{unambiguous}
 use Rattle.schema_laws.specs.Rows.{all_from}

@@ -19,10 +19,11 @@ use Rattle.content_laws.specs.Names.{length_names}
 use Rattle.content_laws.specs.Walk.{next, ends, Of, next_of}
 use Rattle.content_laws.specs.Words.{first_word_lem, last_word_lem, follow_word_lem}
 use Rattle.content_laws.specs.Below.{find_cases}
-use Rattle.content_laws.specs.Decide.{decides}
-use Rattle.content_laws.specs.Matching.{matches_iff}
-use Rattle.content_laws.specs.Begins.{begins_iff}
-use Rattle.content_laws.specs.Run.{choices, step, run, answer, accepts, accepts_iff, prefix_iff}
+use Rattle.content_laws.proofs.Decide.{decides}
+use Rattle.content_laws.proofs.Matching.{matches_iff}
+use Rattle.content_laws.proofs.Begins.{begins_iff}
+use Rattle.content_laws.specs.Run.{choices, step, run, answer, accepts}
+use Rattle.content_laws.proofs.Run.{accepts_iff, prefix_iff}
 
 -- ---- sets of attributes
 

@@ -21,7 +21,8 @@ use Rattle.basic_laws.specs.Bools.{both}
 use Rattle.paper_laws.specs.Basics.{length_pad, length_from, every_iff}
 use Rattle.paper_laws.specs.Chosen.{Free, distinct_iff}
 use Rattle.content_laws.specs.Words.{first_word_lem, follow_word_lem, first_fits, last_fits, follow_fits}
-use Rattle.content_laws.specs.Ambiguity.{Clash, ambiguous_iff}
+use Rattle.content_laws.specs.Ambiguity.{Clash}
+use Rattle.content_laws.proofs.Ambiguity.{ambiguous_iff}
 use Rattle.table_laws.specs.Blocks.{Fine, not_ambiguous, ten}
 use Rattle.table_laws.specs.SameRules.{FineAll, none_left as no_more, one_more as and-more, L, length_L, length_all, blocks_part, fixed_part_lem, block_in, set_same}
 use Rattle.table_laws.specs.Accepted.{Rising, Fixes, fixed_fine, Good, GoodElement, GoodAll, none_left, one_more, GoodSchema}

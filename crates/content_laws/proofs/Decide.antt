@@ -9,7 +9,8 @@ use Rattle.content_laws.specs.Within.{Within, first_within, follow_within}
 use Rattle.paper.specs.Basics.{any}
 use Rattle.basic_laws.specs.Tests.{or_iff, and_iff, tests}
 use Rattle.content_laws.specs.Below.{any_iff}
-use Rattle.content_laws.specs.Ambiguity.{Clash, ambiguous_iff}
+use Rattle.content_laws.specs.Ambiguity.{Clash}
+use Rattle.content_laws.proofs.Ambiguity.{ambiguous_iff}
 
 clash_to : (e : Expr) (S : Set) → T (clash e S) → Clash e S
 clash_to e S t =

@@ -6,7 +6,8 @@ use Rattle.paper.specs.Sets.{last, follow}
 use Rattle.content_laws.specs.Within.{Within, apart, last_within, follow_within}
 use Rattle.paper.specs.Rules.{start}
 use Rattle.basic_laws.specs.Tests.{or_iff, tests}
-use Rattle.content_laws.specs.Walk.{Walk, carry}
+use Rattle.content_laws.specs.Walk.{Walk}
+use Rattle.content_laws.proofs.Walk.{carry}
 
 module _ (b : ℕ) (e f : Expr) where
   abbrev mid : ℕ

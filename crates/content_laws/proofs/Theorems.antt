@@ -4,17 +4,20 @@ use Rattle.std.proofs.Math.Option.{IsSome}
 use Rattle.paper.specs.Expressions.{Expr, count, name_at, Matches, Marked, Ambiguous}
 use Rattle.content_laws.specs.Marked.{matches_marked}
 use Rattle.paper.specs.Matching.{matches, begins}
-use Rattle.content_laws.specs.Matching.{matches_iff}
-use Rattle.content_laws.specs.Begins.{begins_iff}
+use Rattle.content_laws.proofs.Matching.{matches_iff}
+use Rattle.content_laws.proofs.Begins.{begins_iff}
 use Rattle.paper.specs.Sets.{nullable, first, last, follow, ambiguous, bit, first_word, last_word, follow_word}
 use Rattle.content_laws.specs.Within.{Within}
 use Rattle.paper.specs.Rules.{start, at}
 use Rattle.content_laws.specs.Walk.{Walk, Reads, after}
-use Rattle.content_laws.specs.Glushkov.{glushkov}
-use Rattle.content_laws.specs.Useful.{useful, reached, reaches, reads_iff, nullable_iff, first_iff, last_iff, follow_iff}
-use Rattle.content_laws.specs.Ambiguity.{Clash, ambiguous_iff}
-use Rattle.content_laws.specs.Decide.{decides}
-use Rattle.content_laws.specs.Run.{run, accepts, accepts_iff, prefix_iff}
+use Rattle.content_laws.proofs.Glushkov.{glushkov}
+use Rattle.content_laws.specs.Useful.{useful}
+use Rattle.content_laws.proofs.Useful.{reached, reaches, reads_iff, nullable_iff, first_iff, last_iff, follow_iff}
+use Rattle.content_laws.specs.Ambiguity.{Clash}
+use Rattle.content_laws.proofs.Ambiguity.{ambiguous_iff}
+use Rattle.content_laws.proofs.Decide.{decides}
+use Rattle.content_laws.specs.Run.{run, accepts}
+use Rattle.content_laws.proofs.Run.{accepts_iff, prefix_iff}
 use Rattle.content_laws.specs.Words.{first_word_lem, last_word_lem, follow_word_lem, follow_fits}
 
 -- A word is e's exactly if it is the names of the occurrences of a marked word.

@@ -6,9 +6,9 @@ use Rattle.paper.specs.Expressions.{Expr, name, seq, alt, opt, star, plus, count
 use Rattle.content_laws.specs.Meaning.{of_name, of_seq, of_alt, of_opt, of_star, of_plus}
 use Rattle.paper.specs.Rules.{start}
 use Rattle.content_laws.specs.Walk.{Walk}
-use Rattle.content_laws.specs.Seq.{seq_walk, seq_split}
-use Rattle.content_laws.specs.Alt.{alt_left, alt_right, alt_split}
-use Rattle.content_laws.specs.Star.{opt_walk, opt_split, star_walk, plus_walk, star_match, plus_match}
+use Rattle.content_laws.proofs.Seq.{seq_walk, seq_split}
+use Rattle.content_laws.proofs.Alt.{alt_left, alt_right, alt_split}
+use Rattle.content_laws.proofs.Star.{opt_walk, opt_split, star_walk, plus_walk, star_match, plus_match}
 
 star_of : (b : ℕ) (e : Expr) → ((p : List ℕ) → Marked b e p → Walk b e start p)
     → (p : List ℕ) → Marked b (star e) p → Walk b (star e) start p

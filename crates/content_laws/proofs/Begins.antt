@@ -6,7 +6,8 @@ use Rattle.paper.specs.Expressions.{Expr, Matches, stop}
 use Rattle.paper.specs.Matching.{Reading, spot, both, either, maybe, many, some, fresh, erase, shift, goes, matches, live, live_after, begins}
 use Rattle.basic_laws.specs.Tests.{or_iff, tests}
 use Rattle.content_laws.specs.Useful.{some_word}
-use Rattle.content_laws.specs.Matching.{Rest, goes_iff, matches_iff}
+use Rattle.content_laws.specs.Matching.{Rest}
+use Rattle.content_laws.proofs.Matching.{goes_iff, matches_iff}
 
 live_rest : (r : Reading) → T (live r) → (w : List ℕ) × Rest r w
 live_rest (spot m a) t = ([], (t, refl))

@@ -7,7 +7,8 @@ use Rattle.paper.specs.Sets.{nullable, first, last, follow}
 use Rattle.content_laws.specs.Within.{Within, apart, last_within, follow_within}
 use Rattle.paper.specs.Rules.{State, start, at}
 use Rattle.basic_laws.specs.Tests.{or_iff, or3_iff, and_iff, tests}
-use Rattle.content_laws.specs.Walk.{next, ends, Walk, Of, next_of, carry, join}
+use Rattle.content_laws.specs.Walk.{next, ends, Walk, Of, next_of}
+use Rattle.content_laws.proofs.Walk.{carry, join}
 
 module _ (b : ℕ) (e f : Expr) where
   -- where the occurrences of f start

@@ -7,7 +7,8 @@ use Rattle.content_laws.specs.Meaning.{Split}
 use Rattle.paper.specs.Sets.{first}
 use Rattle.paper.specs.Rules.{State, start, at}
 use Rattle.basic_laws.specs.Tests.{or_iff, and_iff, tests}
-use Rattle.content_laws.specs.Walk.{next, ends, Walk, carry, join}
+use Rattle.content_laws.specs.Walk.{next, ends, Walk}
+use Rattle.content_laws.proofs.Walk.{carry, join}
 
 module _ (b : ℕ) (e : Expr) where
   pub opt_walk : (p : List ℕ) → Walk b e start p → Walk b (opt e) start p
