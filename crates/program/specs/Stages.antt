@@ -19,7 +19,7 @@ use Rattle.paper.specs.Program.{Line, halt, line, edit_lines, check_lines, docum
 use Rattle.numbers.specs.Laws.{tokens_refused}
 use Rattle.docfile.specs.declared.Count.{Count}
 use Rattle.docfile.specs.Outcome.{outcome}
-use Rattle.table_laws.specs.Translated.{file_proper, file_rules}
+use Rattle.table_laws.proofs.Translated.{file_proper, file_rules}
 use Rattle.answer_laws.specs.ReaderWriter.{read_answers}
 use Rattle.answer_laws.specs.Translator.{Stops, schema_stops}
 use Rattle.lines.specs.Put.{Put, put_both, put_as}

@@ -10,7 +10,7 @@ use Rattle.paper.specs.Table.{table_length, table_of, translated, translate}
 use Rattle.paper.specs.Rules.{of_schema}
 use Rattle.paper.specs.Judgement.{Answer}
 use Rattle.paper.specs.Edits.{Request, outcome, edit_by, edit}
-use Rattle.table_laws.specs.Translated.{file_proper, file_rules, check_by_expressions, edit_by_expressions}
+use Rattle.table_laws.proofs.Translated.{file_proper, file_rules, check_by_expressions, edit_by_expressions}
 use Rattle.promises.specs.Calls.{papers}
 use Rattle.promises.specs.Statements.{Translated, TableProper, TableReads, CheckByExpressions}
 

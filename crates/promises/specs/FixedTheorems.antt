@@ -8,8 +8,9 @@ use Rattle.paper.specs.Schema.{Attribute, is_fixed, Element}
 use Rattle.paper.specs.Table.{of_kind, is_required}
 use Rattle.paper.specs.Rules.{undeclared, has, fixed_to}
 use Rattle.basic_laws.specs.Tests.{true_iff}
-use Rattle.table_laws.specs.Accepted.{Fixes, Rising, fixed_fine, GoodAll, none_left, one_more, schema_good}
-use Rattle.table_laws.specs.ProperSets.{at_own}
+use Rattle.table_laws.specs.Accepted.{Fixes, Rising, fixed_fine, GoodAll, none_left, one_more}
+use Rattle.table_laws.proofs.Accepted.{schema_good}
+use Rattle.table_laws.proofs.ProperSets.{at_own}
 use Rattle.promises.specs.Fixed as promised
 
 -- an attribute that is fixed, among the others

@@ -1,4 +1,4 @@
--- Laws of schemas and tables. What is proved stands in `Translated`.
+-- Laws of schemas and tables. What is proved stands in proofs/Translated.
 pub mod Readers
 pub mod Parts
 pub mod Blocks
@@ -7,4 +7,3 @@ pub mod Entries
 pub mod SameRules
 pub mod ProperSets
 pub mod ProperTable
-pub mod Translated

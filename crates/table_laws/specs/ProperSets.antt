@@ -1,7 +1,6 @@
 -- The sets of attributes in the block of an element that was read are proper. Assumes nothing.
-use Rattle.std.specs.Prelude.{◌≡◌, refl, Bool, true, false, not, ◌&&◌, ◌||◌, List, [], ◌∷◌, ◌++◌, ℕ, suc, ◌≤◌, ◌<◌, eqb}
-use Rattle.std.proofs.Common.{sym, ap, ap₂, ◌∙◌, arith, eqb-true, eq-eqb, ne_eqb}
-use Rattle.std.proofs.Math.Bool.{and-false}
+use Rattle.std.specs.Prelude.{◌≡◌, refl, Bool, true, false, not, ◌&&◌, ◌||◌, List, [], ◌∷◌, ℕ, suc, ◌<◌, eqb}
+use Rattle.std.proofs.Common.{sym, ap, ap₂, ◌∙◌, arith, eqb-true, ne_eqb}
 use Rattle.paper.specs.Basics.{most_attributes, every, some_of}
 use Rattle.paper.specs.Schema.{Attribute, Element}
 use Rattle.paper.specs.Table.{set_of, of_kind, is_required, block_of, within, apart, single, proper_sets}
@@ -12,7 +11,7 @@ use Rattle.table_laws.specs.Blocks.{set_bit}
 use Rattle.table_laws.specs.Accepted.{Rising}
 
 module _ (l : List Attribute) where
-  abbrev At : (Attribute → Bool) → ℕ → Bool
+  abbrev pub At : (Attribute → Bool) → ℕ → Bool
   At P k = some_of (λ y. P y && eqb k y.number) l
 
 sub_at : (P : Attribute → Bool) (l : List Attribute) (k : ℕ) → not (At l P k) || At l (λ y. true) k ≡ true
@@ -30,7 +29,7 @@ set_within : (P : Attribute → Bool) (l : List Attribute) → within (set_of P 
 set_within P l = (every_iff (λ k. not (bit (set_of P l) k) || bit (set_of (λ y. true) l) k) most_attributes).1
     (λ k i. ap₂ (λ a b. not a || b) (set_bit P l k) (set_bit (λ y. true) l k) ∙ sub_at P l k)
 
-absent : (P : Attribute → Bool) (l : List Attribute) (low : ℕ) (had : Bool) → Rising low had l → (k : ℕ) → k < low → At l P k ≡ false
+pub absent : (P : Attribute → Bool) (l : List Attribute) (low : ℕ) (had : Bool) → Rising low had l → (k : ℕ) → k < low → At l P k ≡ false
 absent P [] low had r k h = refl
 absent P (y ∷ l) low had (a, b, r) k h =
     go (P y) (eqb k y.number) (ne_eqb k y.number (λ z. omega arith)) ∙ absent P l (suc y.number) (had || eqb y.kind 1) r k (omega arith)
@@ -91,23 +90,6 @@ set_single l r = (every_iff (λ k. not (bit w k) || every (λ j. not (bit w j)) 
     go : (k : ℕ) (b : Bool) → At l (of_kind 1) k ≡ b → not (bit w k) || every (λ j. not (bit w j)) k ≡ true
     go k false e = rw (set_bit (of_kind 1) l k, e)
     go k true e = rw (set_bit (of_kind 1) l k, e) ((every_iff (λ j. not (bit w j)) k).1 (λ j h. ap not (set_bit (of_kind 1) l j ∙ one_id_lem l 0 r j k h e)))
-
--- what a rising list has of the number of one of its own is that one
-least : (u v : List Attribute) (y : Attribute) (low : ℕ) (had : Bool) → Rising low had (u ++ y ∷ v) → low ≤ y.number
-least [] v y low had r = r.0
-least (x ∷ u) v y low had (a, b, r) = let h = least u v y (suc x.number) (had || eqb x.kind 1) r in omega arith
-
-pub at_own : (P : Attribute → Bool) (u v : List Attribute) (y : Attribute) (low : ℕ) (had : Bool) → Rising low had (u ++ y ∷ v)
-    → At (u ++ y ∷ v) P y.number ≡ P y
-at_own P [] v y low had (a, b, r) =
-    rw (eq-eqb y.number y.number refl, absent P v (suc y.number) (had || eqb y.kind 1) r y.number (omega arith)) (alone (P y))
-  where
-    alone : (p : Bool) → (p && true) || false ≡ p
-    alone true = refl
-    alone false = refl
-at_own P (x ∷ u) v y low had (a, b, r) =
-    let h = least u v y (suc x.number) (had || eqb x.kind 1) r in
-    rw (ne_eqb y.number x.number (λ z. omega arith), and-false (P x)) (at_own P u v y (suc x.number) (had || eqb x.kind 1) r)
 
 pub sets_proper : (x : Element) → Rising 0 false x.attributes → proper_sets (block_of x) ≡ true
 unfolding proper_sets

@@ -1,2 +1,2 @@
-// Laws of schemas and their tables, in specs/: see specs/Translated.antt. There is no code here.
+// Laws of schemas and their tables, in specs/ and proofs/: see proofs/Translated.antt. There is no code here.
 #![tactic(auto)]

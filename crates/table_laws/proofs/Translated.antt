@@ -7,8 +7,9 @@ use Rattle.paper.specs.Rules.{of_schema, of_table}
 use Rattle.paper.specs.Judgement.{checking, check}
 use Rattle.paper.specs.Edits.{Request, outcome, edit_by, edit}
 use Rattle.table_laws.specs.SameRules.{same_rules}
-use Rattle.table_laws.specs.Accepted.{schema_good}
-use Rattle.table_laws.specs.ProperTable.{fine_all, table_proper}
+use Rattle.table_laws.proofs.Accepted.{schema_good}
+use Rattle.table_laws.specs.ProperTable.{fine_all}
+use Rattle.table_laws.proofs.ProperTable.{table_proper}
 
 module _ (file : List ℕ) {s : Schema} {r : List ℕ} (e : schema_of file ≡ ok s r) where
   pub file_proper : proper (table_of s) ≡ true
