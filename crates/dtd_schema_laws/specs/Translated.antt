@@ -14,7 +14,7 @@ use Rattle.schema_laws.specs.Contents.{unambiguous}
 use Rattle.schema_laws.specs.Rows.{all_from}
 use Rattle.schema_laws.specs.Elements.{fit, fixes}
 use Rattle.schema_laws.specs.Unambiguous.{ambiguous_true, fit_all}
-use Rattle.schema_laws.specs.Taken.{taken_whole, ambiguous_exactly}
+use Rattle.schema_laws.proofs.Taken.{taken_whole, ambiguous_exactly}
 use Rattle.dtd_schema_laws.specs.Bytes.{file_bytes}
 
 -- ---- the first ambiguous model, if there is one

@@ -9,7 +9,7 @@ use Rattle.paper.specs.Table.{table_length, table_of, translated, translate}
 use Rattle.answer_laws.specs.Translator.{schema_stops}
 use Rattle.answer_laws.specs.Judged.{each}
 use Rattle.schema_laws.specs.Written.{bytes_of_lem}
-use Rattle.schema_laws.specs.Taken.{taken_exactly, ambiguous_exactly}
+use Rattle.schema_laws.proofs.Taken.{taken_exactly, ambiguous_exactly}
 use Rattle.promises.specs.Calls.{papers}
 use Rattle.promises.specs.Statements.{FileOf, TakenExactly, AmbiguousExactly, TranslateLength, TranslateDone, TranslateAmbiguous, TranslateElse}
 

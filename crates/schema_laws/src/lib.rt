@@ -1,2 +1,2 @@
-// Which files are schemas: laws, in specs/. There is no code here.
+// Which files are schemas: laws, in specs/ and proofs/. There is no code here.
 #![tactic(auto)]

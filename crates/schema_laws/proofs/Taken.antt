@@ -13,7 +13,8 @@ use Rattle.schema_laws.specs.Written.{ahead, ahead_file, file_ahead, ahead_join,
 use Rattle.schema_laws.specs.Written.{then_takes, then_stops, then_ends, same, reworded}
 use Rattle.schema_laws.specs.Rows.{in_range, number_exact, upto_exact, Amid}
 use Rattle.schema_laws.specs.Contents.{Tangled}
-use Rattle.schema_laws.specs.Elements.{fit, fixes, elements_exact}
+use Rattle.schema_laws.specs.Elements.{fit, fixes}
+use Rattle.schema_laws.proofs.Elements.{elements_exact}
 use Rattle.schema_laws.specs.Unambiguous.{ambiguous_true, fit_all}
 
 -- ---- what is written
