@@ -9,8 +9,10 @@ use Rattle.shape_laws.specs.Bridge.{length_toks, toks_take}
 use Rattle.shape_laws.specs.Depth.{count, count_few}
 use Rattle.shape_laws.specs.Touch.{parent_of}
 use Rattle.shape_laws.specs.Splice.{parts}
-use Rattle.shape_laws.specs.Looked.{over, touched_children, over_parent, over_none}
-use Rattle.shape_laws.specs.Widths.{Comes, own_is}
+use Rattle.shape_laws.specs.Looked.{over, over_parent, over_none}
+use Rattle.shape_laws.proofs.Looked.{touched_children}
+use Rattle.shape_laws.specs.Widths.{Comes}
+use Rattle.shape_laws.proofs.Widths.{own_is}
 
 -- ---- the children of an element
 

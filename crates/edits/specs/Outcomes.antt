@@ -21,7 +21,7 @@ use Rattle.paper.specs.Back.{went, inverse, needs, noted}
 use Rattle.paper.specs.Counts.{moved_from, moved, count_good}
 use Rattle.paper.specs.Edits.{children_of, looked_at, Made, made, Edited, refused, done, form_fault, size_fault, limit_fault, answered, editing, Outcome, written, outcome, edit_by, edit}
 use Rattle.shape_laws.specs.EditJudged.{Asked, form_iff, allowed_by, coming_toks}
-use Rattle.shape_laws.specs.EditLooked.{piece_comes}
+use Rattle.shape_laws.proofs.EditLooked.{piece_comes}
 use Rattle.shape_laws.specs.Widths.{Comes}
 use Rattle.edits.specs.declared.Answer.{Answer}
 use Rattle.touched.specs.declared.Finding.{Finding}

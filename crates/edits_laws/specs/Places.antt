@@ -1,10 +1,10 @@
 -- A place in a tree: the tokens before it and after it, and which places there are. Assumes nothing.
-use Rattle.std.specs.Prelude.{◌≡◌, refl, ◌⊎◌, true, false, List, [], ◌∷◌, ◌++◌, ℕ, zero, suc, ◌+◌, length, drop}
+use Rattle.std.specs.Prelude.{◌≡◌, refl, ◌⊎◌, true, List, [], ◌∷◌, ◌++◌, ℕ, zero, suc, ◌+◌, length, drop}
 use Rattle.std.proofs.Common.{sym, ap, ◌∙◌, inl, inr, arith, length-append}
 use Rattle.paper.specs.declared.Tok.{Tok}
 use Rattle.paper.specs.declared.Tok.TheVariants.{Start, End, Text}
 use Rattle.paper.specs.Trees.{Given, Forest, nil, txt, elem, flat_v, flat_a, flat, IsTree}
-use Rattle.paper.specs.Edits.{opens, opens_or_ends, at_head}
+use Rattle.paper.specs.Edits.{opens_or_ends, at_head}
 use Rattle.paper.specs.TreeEdits.{Hole, here, past_text, past_element, inside, fill, place_of}
 use Rattle.basic_laws.specs.Bools.{clash}
 use Rattle.shape_laws.specs.Tree.{flat_a_append, flat_append}
@@ -24,26 +24,12 @@ after (past_text n h) r = after h r
 after (past_element n gs k h) r = after h r
 after (inside n gs h f) r = after h (End ∷ flat f r)
 
-pub flat_fill : (h : Hole) (f : Forest) (r : List Tok) → flat (fill h f) r ≡ before h ++ flat f (after h r)
-flat_fill here f r = refl
-flat_fill (past_text n h) f r = ap (λ z. Text n ∷ z) (flat_fill h f r)
-flat_fill (past_element n gs k h) f r = rw (flat_fill h f r) (flat_append (elem n gs k nil) (before h) (flat f (after h r)))
-flat_fill (inside n gs h g) f r =
-    rw (flat_fill h f (End ∷ flat g r)) (ap (λ z. Start n ∷ z) (flat_a_append gs (before h) (flat f (after h (End ∷ flat g r)))))
-
 pub before_length : (h : Hole) → length (before h) ≡ place_of h
 before_length here = refl
 before_length (past_text n h) = ap suc (before_length h)
 before_length (past_element n gs k h) =
     ap length (flat_append (elem n gs k nil) [] (before h)) ∙ rw (length-append, before_length h)
 before_length (inside n gs h f) = ap suc (ap length (flat_a_append gs [] (before h)) ∙ rw (length-append, before_length h))
-
--- after the row at a place comes no start and no text
-pub after_shut : (h : Hole) (r : List Tok) → at_head opens r ≡ false → at_head opens (after h r) ≡ false
-after_shut here r e = e
-after_shut (past_text n h) r e = after_shut h r e
-after_shut (past_element n gs k h) r e = after_shut h r e
-after_shut (inside n gs h f) r e = after_shut h (End ∷ flat f r) refl
 
 -- ---- the places
 

@@ -100,9 +100,12 @@ module _ (s : Schema) (n : ℕ) (d : List Tok) where
   abbrev k : List Tok
   k = kids zero d
 
-  begun_iff : (i : ℕ) → T (content_begun (of_schema s) n (take i k)) ↔ Begun c (take i k)
+  begun_iff_lem : (i : ℕ) → T (content_begun (of_schema s) n (take i k)) ↔ Begun c (take i k)
   unfolding content_begun
-  begun_iff i = by_kind c (take i k) (items_take i k (items zero d))
+  begun_iff_lem i = by_kind c (take i k) (items_take i k (items zero d))
+
+  begun_iff : (i : ℕ) → T (content_begun (of_schema s) n (take i k)) ↔ Begun c (take i k)
+  begun_iff i = begun_iff_lem i
 
   -- The children of an element stop at i exactly if they are not valid content and i is the number that the definition gives.
   pub stops_means : (i : ℕ)
@@ -110,4 +113,4 @@ module _ (s : Schema) (n : ℕ) (d : List Tok) where
       ↔ ((¬ ContentValid (element_at s n).content (kids zero d)) × (i ≡ stop_after (content_begun (of_schema s) n) (kids zero d)))
   stops_means = stops_iff (Begun c) (ContentValid c)
       (λ u v h. (v ++ h.0, rw append_assoc at h.1)) (λ l h. ([], rw append-nil h))
-      (content_begun (of_schema s) n) k begun_iff (some_begun c)
+      (content_begun (of_schema s) n) k begun_iff_lem (some_begun c)

@@ -151,10 +151,13 @@ module _ (s : Schema) (d : List Tok) (b : is_body (phases Body d) ≡ true) wher
       let (to, of) = stands_iff (is_id (of_schema s)) d b i x in
       (λ m. stands_as (λ n a. (id_iff s n a).0) (to m), λ z. of (stands_as (λ n a. (id_iff s n a).1) z))
 
-  holds_reference : (i x : ℕ) → Holds (refs_of (of_schema s) d) i x ↔ StandsAt (IsReference s) d i x
-  holds_reference i x =
+  holds_reference_lem : (i x : ℕ) → Holds (refs_of (of_schema s) d) i x ↔ StandsAt (IsReference s) d i x
+  holds_reference_lem i x =
       let (to, of) = stands_iff (is_ref (of_schema s)) d b i x in
       (λ m. stands_as (λ n a. (reference_iff s n a).0) (to m), λ z. of (stands_as (λ n a. (reference_iff s n a).1) z))
+
+  holds_reference : (i x : ℕ) → Holds (refs_of (of_schema s) d) i x ↔ StandsAt (IsReference s) d i x
+  holds_reference i x = holds_reference_lem i x
 
   pub ids_iff : ((repeated [] (ids_of (of_schema s) d)).0 ≡ 0) ↔ ((i j x : ℕ) → StandsAt (IsId s) d i x → StandsAt (IsId s) d j x → i ≡ j)
   ids_iff =
@@ -168,6 +171,6 @@ module _ (s : Schema) (d : List Tok) (b : is_body (phases Body d) ≡ true) wher
   references_iff =
       let ids = ids_of (of_schema s) d in
       let (to, of) = dangling_iff (map value_in ids) (refs_of (of_schema s) d) in (
-        λ e i x z. let (j, m) = (elem_iff x ids).0 (to e i x ((holds_reference i x).1 z)) in (j, (holds_id j x).0 m),
-        λ f. of (λ i x m. let (j, z) = f i x ((holds_reference i x).0 m) in (elem_iff x ids).1 (j, (holds_id j x).1 z)),
+        λ e i x z. let (j, m) = (elem_iff x ids).0 (to e i x ((holds_reference_lem i x).1 z)) in (j, (holds_id j x).0 m),
+        λ f. of (λ i x m. let (j, z) = f i x ((holds_reference_lem i x).0 m) in (elem_iff x ids).1 (j, (holds_id j x).1 z)),
       )

@@ -26,7 +26,8 @@ use Rattle.kept_laws.specs.Counts.{times, times_few, times_stays, in_stays}
 use Rattle.kept_laws.specs.Split.{ahead, goes, comes, stays, old_values, new_values}
 use Rattle.kept_laws.specs.Kept.{keys_iff}
 use Rattle.kept_laws.specs.Read.{Reads}
-use Rattle.kept_laws.specs.Walks.{WalkedBy, keys_walked}
+use Rattle.kept_laws.specs.Walks.{WalkedBy}
+use Rattle.kept_laws.proofs.Walks.{keys_walked}
 use Rattle.key_moves.specs.Moves.{elem_append, Long, Enough, Fits, Exchanged}
 use Rattle.key_moves.specs.Turns.{ids_in, refs_in}
 use Rattle.kept_keys.specs.Settled.{settled, both_settled}

@@ -7,8 +7,8 @@ use Rattle.paper.specs.Tokens.{toks, tok_of}
 use Rattle.paper.specs.Edits.{opens, splice_at, splice_cut, coming}
 use Rattle.shape_laws.specs.Depth.{count_few}
 use Rattle.shape_laws.specs.EditJudged.{form_iff}
-use Rattle.shape_laws.specs.Widths.{own_is}
-use Rattle.shape_laws.specs.EditLooked.{looked_is, parent_looked, piece_comes}
+use Rattle.shape_laws.proofs.Widths.{own_is}
+use Rattle.shape_laws.proofs.EditLooked.{looked_is, parent_looked, piece_comes}
 use Rattle.answer_laws.specs.ShapeParts.{shape_element}
 use Rattle.promises.specs.Calls.{papers}
 use Rattle.promises.specs.Always.{edit_leaves}

@@ -10,7 +10,7 @@ use Rattle.paper.specs.Judgement.{judge}
 use Rattle.paper.specs.Edits.{Request, Outcome, refused, outcome, edited, touched_by, made, form_fault, limit_fault, answered, editing, edit_by, edit}
 use Rattle.paper.specs.Back.{needs}
 use Rattle.shape_laws.specs.EditJudged.{form_iff}
-use Rattle.edits_laws.specs.Edited.{edited_tree}
+use Rattle.edits_laws.proofs.Edited.{edited_tree}
 use Rattle.back_laws.specs.Sizes.{size_iff}
 use Rattle.count_laws.specs.Limits.{limit_iff}
 use Rattle.promises.specs.Calls.{papers}

@@ -11,7 +11,7 @@ use Rattle.content_laws.proofs.Theorems as content
 use Rattle.shape_laws.specs.Tree.{shape_is_tree}
 use Rattle.shape_laws.specs.TreeDepth as tree-depth
 use Rattle.schema_laws.specs.Written.{bytes_of_lem}
-use Rattle.judge_laws.specs.Judged.{checked_valid}
+use Rattle.judge_laws.proofs.Judged.{checked_valid}
 use Rattle.judge_laws.specs.Begun.{names_begun}
 use Rattle.judge_laws.specs.Children.{child_there, children_before, past_last}
 use Rattle.docfile.specs.Theorems.{read_write, write_read, read_write_done, write_read_done}

@@ -1,6 +1,6 @@
 -- Laws of token lists. Ends has turns of loops; Bridge goes from numbers to tokens; Phases to Five say what an edit leaves as it was; Tree
--- says that shape is a tree; EditJudged says what follows for judging an edit; Looked to EditLooked count the
--- children that it looks at.
+-- says that shape is a tree; EditJudged says what follows for judging an edit; Looked and Widths, with
+-- proofs/Looked.antt to proofs/EditLooked.antt, count the children that it looks at.
 pub mod Ends
 pub mod Bridge
 pub mod Local
@@ -17,7 +17,6 @@ pub mod TreeDepth
 pub mod EditJudged
 pub mod Looked
 pub mod Widths
-pub mod EditLooked
 -- A document with shape in its buffer; what a done edit writes there
 pub mod Shaped
 pub mod Written

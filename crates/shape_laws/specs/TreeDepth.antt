@@ -29,8 +29,11 @@ deep_flat k (elem n gs c f) r =
     let e = deep_flat k f r in
     omega arith
 
+tree_deep_lem : (d : List Tok) (t : IsTree d) → deep zero d ≡ depth (tree_of t)
+tree_deep_lem d t = rw t.tokens (let e = deep_flat zero (tree_of t) [] in omega arith)
+
 pub tree_deep : (d : List Tok) (t : IsTree d) → deep zero d ≡ depth (tree_of t)
-tree_deep d t = rw t.tokens (let e = deep_flat zero (tree_of t) [] in omega arith)
+tree_deep d t = tree_deep_lem d t
 
 -- ---- shape
 
@@ -47,11 +50,11 @@ shape_exactly buffer used = (to, of)
         let (low, high) = (and-eq-true_iff (leb 2 used) (leb used most_tokens)).0 e in
         let t : IsTree d = (shape_is_tree d).0 one in
         let few = leb-true (deep zero d) most_deep s in
-        let same = tree_deep d t in
+        let same = tree_deep_lem d t in
         (leb-true 2 used low, leb-true used most_tokens high, leb-true used (length buffer) long, (t, omega arith))
 
     of : InShape buffer used → leb 2 used && leb used most_tokens && leb used (length buffer) && is_element (toks (take used buffer)) && shallow (toks (take used buffer)) ≡ true
     of (low, high, long, (t, few)) =
         let d : List Tok = toks (take used buffer) in
-        let same = tree_deep d t in
+        let same = tree_deep_lem d t in
         rw (le-leb 2 used low, le-leb used most_tokens high, le-leb used (length buffer) long, (shape_is_tree d).1 t, le-leb (deep zero d) most_deep (omega arith))

@@ -9,7 +9,8 @@ use Rattle.paper.specs.Edits.{splice}
 use Rattle.paper.specs.TreeEdits.{Hole, fill, place_of, One, text, element, set_given, drop_given}
 use Rattle.basic_laws.specs.Bools.{clash}
 use Rattle.shape_laws.specs.Tree.{flat_a_append, flat_append}
-use Rattle.edits_laws.specs.Places.{before, after, flat_fill, before_length}
+use Rattle.edits_laws.specs.Places.{before, after, before_length}
+use Rattle.edits_laws.proofs.Places.{flat_fill}
 
 pub splice_cons : (t : Tok) (l p : List Tok) (s n : ℕ) → splice (suc s) n p (t ∷ l) ≡ t ∷ splice s n p l
 splice_cons t l p s n = rw suc-add

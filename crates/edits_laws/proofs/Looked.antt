@@ -12,7 +12,8 @@ use Rattle.paper.specs.TreeEdits.{Hole, here, past_text, past_element, inside, f
 use Rattle.shape_laws.specs.Looked.{over, over_even, over_start}
 use Rattle.shape_laws.specs.Tree.{flat_a_append}
 use Rattle.shape_laws.specs.Widths.{content_width}
-use Rattle.edits_laws.specs.Places.{before, after, flat_fill, before_length}
+use Rattle.edits_laws.specs.Places.{before, after, before_length}
+use Rattle.edits_laws.proofs.Places.{flat_fill}
 
 -- ---- what a part of a tree opens, it closes
 

@@ -7,7 +7,8 @@ use Rattle.paper.specs.Rules.{Rules}
 use Rattle.paper.specs.Judgement.{key_fault}
 use Rattle.paper.specs.Edits.{Request, splice_at, splice_cut, coming, edited, form_fault}
 use Rattle.shape_laws.specs.EditJudged.{Asked, form_iff, allowed_by, edited_toks}
-use Rattle.kept_laws.specs.Kept.{KeptBy, keys_kept}
+use Rattle.kept_laws.specs.Kept.{KeptBy}
+use Rattle.kept_laws.proofs.Kept.{keys_kept}
 
 pub edit_keeps_keys : (R : Rules) (room : ℕ) (q : Request) (doc : List ℕ) → is_element (toks doc) ≡ true → form_fault room q doc ≡ 0
     → (key_fault R (toks doc)).0 ≡ 0

@@ -8,7 +8,8 @@ use Rattle.paper.specs.Shape.{is_element}
 use Rattle.paper.specs.Edits.{Request, splice_at, splice_cut, coming, edited, children_of, looked_at}
 use Rattle.shape_laws.specs.Five.{Allowed, five_even}
 use Rattle.shape_laws.specs.EditJudged.{Asked, allowed_by, edited_toks, touched_toks}
-use Rattle.shape_laws.specs.Looked.{over, own, parent_children_lem, touched_children}
+use Rattle.shape_laws.specs.Looked.{over, own}
+use Rattle.shape_laws.proofs.Looked.{parent_children_lem, touched_children}
 use Rattle.shape_laws.specs.Widths.{Comes, allowed_comes}
 
 module _ (room : ℕ) (q : Request) (doc : List ℕ) (e : is_element (toks doc) ≡ true) (a : Asked room q doc) where

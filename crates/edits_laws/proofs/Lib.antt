@@ -1,0 +1,9 @@
+-- The five edits on the tree.
+-- The tokens around a place are the tree's
+pub mod Places
+-- A splice at a place in a tree
+pub mod Splices
+-- The children that an edit looks at
+pub mod Looked
+-- An edit makes the tokens of the tree that the edit rules make
+pub mod Edited

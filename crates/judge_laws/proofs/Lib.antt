@@ -1,0 +1,2 @@
+-- The judgement finds no fault exactly in the valid documents.
+pub mod Judged
