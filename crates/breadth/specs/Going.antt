@@ -6,7 +6,8 @@ use Rattle.paper.specs.Basics.{most_elements, sequence_places}
 use Rattle.inclusion_laws.specs.Search.{Entry, Queue, expand, found, searched}
 use Rattle.inclusion_laws.specs.Invariant.{Sound}
 use Rattle.inclusion_laws.specs.Turns.{Expanding, Standing}
-use Rattle.inclusion_laws.specs.Pairs.{Runnable, Pair, pairs, sound}
+use Rattle.inclusion_laws.specs.Pairs.{Runnable, Pair, pairs}
+use Rattle.inclusion_laws.proofs.Pairs.{sound}
 use Rattle.trail.specs.Spells.{Spells, spells_set}
 
 -- ---- what is asked of the two blocks

@@ -6,8 +6,9 @@ use Rattle.paper.specs.Basics.{sequence_places}
 use Rattle.inclusion_laws.specs.Members.{left_set}
 use Rattle.inclusion_laws.specs.Search.{Entry, Queue, offer, expand, found}
 use Rattle.inclusion_laws.specs.Invariant.{place}
-use Rattle.inclusion_laws.specs.Turns.{offered, tried}
-use Rattle.inclusion_laws.specs.Pairs.{Pair, Inside, InsideRun, pairs, good_inside}
+use Rattle.inclusion_laws.proofs.Turns.{offered, tried}
+use Rattle.inclusion_laws.specs.Pairs.{Pair, Inside, InsideRun, pairs}
+use Rattle.inclusion_laws.proofs.Pairs.{good_inside}
 use Rattle.pairs.specs.Number.{Paired, leads_to}
 use Rattle.pairs.specs.Leads.{paired, numbered, leads_pair}
 use Rattle.trail.specs.Spells.{Spells, spells_set, spells_new}

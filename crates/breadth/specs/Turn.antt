@@ -8,9 +8,11 @@ use Rattle.std.proofs.Math.ListN.{length-set}
 use Rattle.paper.specs.Basics.{sequence_places}
 use Rattle.inclusion_laws.specs.Members.{blank, blank_long}
 use Rattle.inclusion_laws.specs.Search.{Entry, found, searched}
-use Rattle.inclusion_laws.specs.Turns.{Standing, taken}
-use Rattle.inclusion_laws.specs.Found.{begins_at}
-use Rattle.inclusion_laws.specs.Pairs.{Pair, Inside, InsideRun, pairs, good_inside, stops}
+use Rattle.inclusion_laws.specs.Turns.{Standing}
+use Rattle.inclusion_laws.proofs.Turns.{taken}
+use Rattle.inclusion_laws.proofs.Found.{begins_at}
+use Rattle.inclusion_laws.specs.Pairs.{Pair, Inside, InsideRun, pairs, stops}
+use Rattle.inclusion_laws.proofs.Pairs.{good_inside}
 use Rattle.pairs.specs.Number.{old_at, new_at, Paired}
 use Rattle.pairs.specs.Leads.{paired, losing_pair}
 use Rattle.trail.specs.Spells.{Spells, root}

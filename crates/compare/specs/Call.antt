@@ -11,8 +11,8 @@ use Rattle.paper.specs.Rules.{of_table}
 use Rattle.paper.specs.Inclusion.{comparable, refused, answered, comparing, compare}
 use Rattle.inclusion_laws.specs.Search.{searched}
 use Rattle.inclusion_laws.specs.Pairs.{pairs}
-use Rattle.inclusion_laws.specs.Tables.{runnable}
-use Rattle.inclusion_laws.specs.Theorems.{computed}
+use Rattle.inclusion_laws.proofs.Tables.{runnable}
+use Rattle.inclusion_laws.proofs.Theorems.{computed}
 use Rattle.compare.specs.declared.Compared.{Compared}
 use Rattle.breadth.specs.declared.Found.{Found}
 use Rattle.breadth.specs.Going.{Blocks}

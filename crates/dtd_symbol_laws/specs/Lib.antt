@@ -1,7 +1,7 @@
 -- The symbols of a model, written from right to left.
 -- The definition, byte by byte
 pub mod Machine
--- A model that is spelled comes to its symbols
+-- Symbols that are kept for a part
 pub mod Runs
 -- Models and their symbols, computed
 pub mod Examples

@@ -8,7 +8,7 @@ use Rattle.paper.specs.Dtd.Declarations.{Part}
 use Rattle.paper.specs.Dtd.Grammar.{cp}
 use Rattle.paper.specs.Dtd.Numbering.{expr_of}
 use Rattle.dtd_symbol_laws.specs.Machine.{State, at, size, after, step, step_grows, sweep, sweep_last, sweep_size, Closed, closed_last}
-use Rattle.dtd_symbol_laws.specs.Runs.{spelled}
+use Rattle.dtd_symbol_laws.proofs.Runs.{spelled}
 use Rattle.dtd_owed.specs.declared.Held.{Held}
 use Rattle.dtd_owed.specs.Held.{state_of}
 use Rattle.dtd_symbols.specs.Turns.{numbered, step_at, Ready, Turned}

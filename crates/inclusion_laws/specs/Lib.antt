@@ -1,4 +1,4 @@
--- Which sequences are lost from one content to another. What is proved stands in `Theorems`; the definitions that it speaks of are
+-- Which sequences are lost from one content to another. What is proved stands in `Theorems` of proofs/; the definitions that it speaks of are
 -- the paper's (`Inclusion`) and, for the search, those of Search and Pairs.
 pub mod Order
 pub mod Words
@@ -6,8 +6,5 @@ pub mod Members
 pub mod Search
 pub mod Invariant
 pub mod Turns
-pub mod Found
 pub mod Pairs
-pub mod Tables
 pub mod Meaning
-pub mod Theorems

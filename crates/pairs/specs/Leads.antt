@@ -8,7 +8,8 @@ use Rattle.paper.specs.Table.{cell, count_at}
 use Rattle.paper.specs.Rules.{State, start, at, move}
 use Rattle.table.specs.Run.{stepped, inside, Ready}
 use Rattle.paper.specs.Basics.{sequence_places}
-use Rattle.inclusion_laws.specs.Pairs.{stops, Pair, state_number, run_number, Inside, InsideRun, run_below, pairs}
+use Rattle.inclusion_laws.specs.Pairs.{stops, Pair, state_number, run_number, Inside, InsideRun, pairs}
+use Rattle.inclusion_laws.proofs.Pairs.{run_below}
 use Rattle.pairs.specs.Number.{run_at, run_at_lem, old_at, new_at, Paired, join_number, leads_to}
 
 inside_true : (b : List ℕ) (o : Option State) → InsideRun b o → inside b o ≡ true

@@ -21,7 +21,8 @@ use Rattle.docfile.specs.declared.Count.{Count}
 use Rattle.docfile.specs.Outcome.{outcome}
 use Rattle.table_laws.proofs.Translated.{file_proper, file_rules}
 use Rattle.answer_laws.specs.ReaderWriter.{read_answers}
-use Rattle.answer_laws.specs.Translator.{Stops, schema_stops}
+use Rattle.answer_laws.specs.Translator.{Stops}
+use Rattle.answer_laws.proofs.Translator.{schema_stops}
 use Rattle.lines.specs.Put.{Put, put_both, put_as}
 use Rattle.lines.specs.Lines.{line_of, text, text_none, text_more, Stop}
 

@@ -6,7 +6,7 @@ use Rattle.std.proofs.lemmas.Bool.{eqb-false}
 use Rattle.paper.specs.Schema.{Schema, Parsed, stop, ok, schema_of}
 use Rattle.paper.specs.SchemaWritten.{MeetsAmbiguous}
 use Rattle.paper.specs.Table.{table_length, table_of, translated, translate}
-use Rattle.answer_laws.specs.Translator.{schema_stops}
+use Rattle.answer_laws.proofs.Translator.{schema_stops}
 use Rattle.answer_laws.specs.Judged.{each}
 use Rattle.schema_laws.specs.Written.{bytes_of_lem}
 use Rattle.schema_laws.proofs.Taken.{taken_exactly, ambiguous_exactly}

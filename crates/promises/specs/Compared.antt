@@ -11,7 +11,7 @@ use Rattle.paper.specs.Table.{proper}
 use Rattle.paper.specs.Rules.{Rules, element_at, of_schema, of_table}
 use Rattle.paper.specs.Inclusion.{Takes, ShortestOf, takes, shortest_lost, Compared, refused, answered, comparable, comparing, compare}
 use Rattle.inclusion_laws.specs.Words.{Answer}
-use Rattle.inclusion_laws.specs.Theorems.{right, takes_means}
+use Rattle.inclusion_laws.proofs.Theorems.{right, takes_means}
 use Rattle.promises.specs.Calls.{papers}
 use Rattle.promises.specs.ByTable.{table_proper, table_reads}
 use Rattle.promises.specs.Inclusion.{InOrder, Told, CompareDeterminate, CompareKeeps, CompareOrder, CompareTells, CompareByExpressions, CompareMeans}

@@ -16,7 +16,7 @@ use Rattle.judge_laws.specs.Begun.{names_begun}
 use Rattle.judge_laws.specs.Children.{child_there, children_before, past_last}
 use Rattle.docfile.specs.Theorems.{read_write, write_read, read_write_done, write_read_done}
 use Rattle.answer_laws.specs.ReaderWriter as reader-writer
-use Rattle.answer_laws.specs.Translator as translator
+use Rattle.answer_laws.proofs.Translator as translator
 use Rattle.answer_laws.specs.Check as check
 use Rattle.answer_laws.specs.Edit as edit
 use Rattle.answer_laws.specs.Compare as compare

@@ -1,12 +1,12 @@
 -- A phase and a token as the scan keeps them, and the phase after a token. Assumes nothing.
 use Rattle.std.specs.Prelude.{◌≡◌, refl, Bool, true, false, cond, ◌&&◌, ℕ, suc, ◌+◌, ◌-◌, ◌*◌, ◌<◌, ◌≤◌, leb, ltb}
-use Rattle.std.proofs.Common.{mul-one, arith, le-leb, ltb-true, ltb-false, ne_eqb}
+use Rattle.std.proofs.Common.{arith, le-leb, ltb-true, ltb-false, ne_eqb}
 use Rattle.std.proofs.lemmas.Bool.{lt-leb}
 use Rattle.paper.specs.declared.Tok.{Tok}
 use Rattle.paper.specs.declared.Tok.TheVariants.{Start, End, Text, Attr, Value, Bad}
 use Rattle.paper.specs.Basics.{most_number}
 use Rattle.paper.specs.Tokens.{level_of}
-use Rattle.paper.specs.Shape.{Phase, Head, Named, Valued, Body, Fail, phase_of}
+use Rattle.paper.specs.Shape.{Phase, Head, Named, Valued, Body, Fail}
 use Rattle.tokens.specs.Sorts.{token, by_sort_lem}
 use Rattle.scan.specs.Scan.{rules, follow, numbers, rise, is_attribute, is_value, holds}
 
@@ -28,7 +28,7 @@ least_of Fail = 0
 
 -- ---- a token, as the scan reads it
 
-abbrev sort_of : Tok → ℕ
+abbrev pub sort_of : Tok → ℕ
 sort_of (Start n) = 1
 sort_of End = 2
 sort_of (Text n) = 3
@@ -36,7 +36,7 @@ sort_of (Attr n) = 4
 sort_of (Value n) = 5
 sort_of Bad = 0
 
-abbrev number_of : Tok → ℕ
+abbrev pub number_of : Tok → ℕ
 number_of (Start n) = n
 number_of End = 0
 number_of (Text n) = n
@@ -95,52 +95,6 @@ Told false q next least = q ≡ Fail
 abbrev pub Turn : Phase → Phase → ℕ → ℕ → Type 0
 Turn p q sort n =
     Told (holds (next_of p) sort && leb (least_of p * is_attribute sort) n) q (follow sort) (least_of p * is_value sort + (n + 1) * is_attribute sort)
-
--- but for an attribute no number is asked for
-any_number : (least n : ℕ) → leb (least * 0) n ≡ true
-any_number least n = le-leb (least * 0) n (omega arith)
-
-turn_tok : (p : Phase) (t : Tok) → Turn p (phase_of p t) (sort_of t) (number_of t)
-unfolding rules
-turn_tok Head (Start n) = rw (any_number 0 n) (refl, omega arith)
-turn_tok Head End = (refl, refl)
-turn_tok Head (Text n) = rw (any_number 0 n) (refl, omega arith)
-turn_tok Head (Attr n) = rw (any_number 0 n) (refl, omega arith)
-turn_tok Head (Value n) = refl
-turn_tok Head Bad = refl
-turn_tok (Named a) (Start n) = refl
-turn_tok (Named a) End = refl
-turn_tok (Named a) (Text n) = refl
-turn_tok (Named a) (Attr n) = refl
-turn_tok (Named a) (Value n) = rw (any_number (suc a) n) (refl, omega arith)
-turn_tok (Named a) Bad = refl
-turn_tok (Valued a) (Start n) = rw (any_number (suc a) n) (refl, omega arith)
-turn_tok (Valued a) End = rw (any_number (suc a) 0) (refl, omega arith)
-turn_tok (Valued a) (Text n) = rw (any_number (suc a) n) (refl, omega arith)
-turn_tok (Valued a) (Attr n) = rw (mul-one (suc a)) (rises (leb (suc a) n))
-  where
-    rises : (b : Bool) → Told b (cond b (Named n) Fail) 32 (suc a * 0 + (n + 1) * 1)
-    rises true = (refl, omega arith)
-    rises false = refl
-turn_tok (Valued a) (Value n) = rw (any_number (suc a) n) (refl, omega arith)
-turn_tok (Valued a) Bad = refl
-turn_tok Body (Start n) = rw (any_number 0 n) (refl, omega arith)
-turn_tok Body End = (refl, refl)
-turn_tok Body (Text n) = rw (any_number 0 n) (refl, omega arith)
-turn_tok Body (Attr n) = refl
-turn_tok Body (Value n) = refl
-turn_tok Body Bad = refl
-turn_tok Fail (Start n) = refl
-turn_tok Fail End = refl
-turn_tok Fail (Text n) = refl
-turn_tok Fail (Attr n) = refl
-turn_tok Fail (Value n) = refl
-turn_tok Fail Bad = refl
-
-pub turn : (p : Phase) (sort n : ℕ) → sort < 8 → ltb n (numbers sort) ≡ true → Turn p (phase_of p (token sort n)) sort n
-turn p sort n h e =
-    let r : Read sort n = reads n sort h e in
-    rw (r.0, r.1) at (turn_tok p (token sort n))
 
 -- the level, as the table has it
 pub level_tok : (k : ℕ) (t : Tok) → level_of (suc k) t ≡ suc k + rise (sort_of t) - 1

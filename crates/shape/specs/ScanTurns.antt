@@ -16,7 +16,8 @@ use Rattle.tokens.specs.Theorems.{start_iff}
 use Rattle.scan.specs.declared.Scan.{Scan}
 use Rattle.scan.specs.Scan.{follow, numbers, rise, is_attribute, is_value, holds, stands, passed}
 use Rattle.shape_laws.specs.Phases.{bad_fails}
-use Rattle.scan.specs.PhaseTurns.{next_of, least_of, Told, turn, reads, no_token, level_tok, leads, stays_small}
+use Rattle.scan.specs.PhaseTurns.{next_of, least_of, Told, reads, no_token, level_tok, leads, stays_small}
+use Rattle.scan.proofs.PhaseTurns.{turn}
 use Rattle.shape.specs.Left.{rest, rest_turn, rest_deep, rest_fails, rest_end, element, element_rest, no_element}
 
 -- ---- a turn that stands, and one that does not

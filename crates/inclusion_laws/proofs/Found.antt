@@ -12,7 +12,8 @@ use Rattle.inclusion_laws.specs.Words.{Shortest, Answer}
 use Rattle.inclusion_laws.specs.Members.{Member, blank, blank_at, left_all, left_set}
 use Rattle.inclusion_laws.specs.Search.{Machine, Entry, Queue, onward, reach, loses, loses_by, expand, found, searched}
 use Rattle.inclusion_laws.specs.Invariant.{Sound, place, Has, Closed, rising_low}
-use Rattle.inclusion_laws.specs.Turns.{Standing, turned}
+use Rattle.inclusion_laws.specs.Turns.{Standing}
+use Rattle.inclusion_laws.proofs.Turns.{turned}
 
 module _ (m : Machine) (E N : ℕ) (f : Sound m E N) where
   abbrev At : Type 0

@@ -8,8 +8,9 @@ use Rattle.paper.specs.Rules.{element_at, of_schema, of_table}
 use Rattle.paper.specs.Inclusion.{ShortestOf, takes, Takes, lost, shortest_lost}
 use Rattle.inclusion_laws.specs.Words.{Answer, only_one}
 use Rattle.inclusion_laws.specs.Search.{searched, loses_by}
-use Rattle.inclusion_laws.specs.Pairs.{Runnable, block_takes, pairs, loses_lost}
-use Rattle.inclusion_laws.specs.Tables as tables
+use Rattle.inclusion_laws.specs.Pairs.{Runnable, block_takes, pairs}
+use Rattle.inclusion_laws.proofs.Pairs.{loses_lost}
+use Rattle.inclusion_laws.proofs.Tables as tables
 use Rattle.inclusion_laws.specs.Meaning as meaning
 
 -- There is one shortest and lowest sequence at most.

@@ -15,8 +15,9 @@ use Rattle.inclusion_laws.specs.Order.{Below}
 use Rattle.inclusion_laws.specs.Words.{Answer, search_is}
 use Rattle.inclusion_laws.specs.Search.{searched, loses_by}
 use Rattle.inclusion_laws.specs.Invariant.{Sound}
-use Rattle.inclusion_laws.specs.Found.{lost_below, searched_right}
-use Rattle.inclusion_laws.specs.Pairs.{Runnable, pairs, loses_lost, sound}
+use Rattle.inclusion_laws.proofs.Found.{lost_below, searched_right}
+use Rattle.inclusion_laws.specs.Pairs.{Runnable, pairs}
+use Rattle.inclusion_laws.proofs.Pairs.{loses_lost, sound}
 
 -- ---- a block of a proper table
 

@@ -1,0 +1,2 @@
+-- What stands in specs/Translator is proved here.
+pub mod Translator

@@ -1,0 +1,2 @@
+-- A model that is spelled comes to its symbols
+pub mod Runs

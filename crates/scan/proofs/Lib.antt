@@ -1,0 +1,2 @@
+-- What a token makes of a phase
+pub mod PhaseTurns
