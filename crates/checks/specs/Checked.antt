@@ -1,18 +1,18 @@
 -- The ways out of the check that writes counts, and of the question. Assumes nothing.
-use Rattle.std.specs.Prelude.{◌≡◌, refl, Bool, true, false, not, ℕ, zero, suc, ◌≤◌, ◌<◌, ltb, eqb, ℤ, pos, nat_abs, length, get_or, take}
+use Rattle.std.specs.Prelude.{◌≡◌, refl, Bool, true, false, not, ℕ, ◌≤◌, ◌<◌, ltb, eqb, ℤ, pos, nat_abs, length, get_or, take}
 use Rattle.std.proofs.Math.Path.{sym, ap₂}
 use Rattle.std.proofs.Common.{ap, ◌∙◌, arith, Fits, length-take-le}
 use Rattle.std.proofs.Math.Bool.{cond}
-use mathlib.Core.List.{List, [], ◌∷◌, map}
+use mathlib.Core.List.{List}
 use borrow.Author.Tests.{ne_eqb, lt-ltb, le-ltb, not-true, not-false}
 use Rattle.std.specs.Int.{w32}
-use Rattle.paper.specs.Basics.{most_tokens, most_elements, all}
+use Rattle.paper.specs.Basics.{most_tokens, most_elements}
 use Rattle.paper.specs.Tokens.{toks}
 use Rattle.paper.specs.Shape.{shape_of}
 use Rattle.paper.specs.Table.{proper}
 use Rattle.paper.specs.Rules.{of_table}
 use Rattle.paper.specs.Judgement.{Answer, judge, whole, checking, check}
-use Rattle.paper.specs.Counts.{fresh, checked_counts, count_good, elements_of}
+use Rattle.paper.specs.Counts.{fresh, checked_counts, elements_of}
 use Rattle.paper.specs.Calls.{Checks, Tells}
 use Rattle.keys.specs.declared.Fault.{Fault}
 use Rattle.shape_laws.specs.Shaped.{shaped}

@@ -1,6 +1,6 @@
 -- For every place of a document, the place of the end that closes the element that is open there. Assumes nothing.
 use Rattle.std.specs.Prelude.{◌≡◌, refl, Bool, true, false, cond, List, [], ◌∷◌, ◌++◌, ℕ, zero, suc, ◌+◌, ◌≤◌, ◌<◌, ltb, length, get_or, drop}
-use Rattle.std.proofs.Common.{ap, ◌∙◌, suc-le-suc, add-zero, zero-add, add-suc, suc-add, not-suc-le-zero, le_of_suc-le-suc, arith, lt-ltb, le-ltb}
+use Rattle.std.proofs.Common.{ap, ◌∙◌, add-zero, zero-add, add-suc, suc-add, not-suc-le-zero, le_of_suc-le-suc, arith, lt-ltb, le-ltb}
 use Rattle.std.proofs.Math.ListN.{get_or-append}
 use Rattle.paper.specs.declared.Tok.{Tok}
 use Rattle.paper.specs.declared.Tok.TheVariants.{Start, End, Text, Attr, Value, Bad}

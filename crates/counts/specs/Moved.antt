@@ -1,21 +1,17 @@
 -- A count with what comes and what goes, as one number of the code, and the 48 of them. Assumes nothing.
-use Rattle.std.specs.Prelude.{◌≡◌, refl, Bool, true, false, cond, ◌&&◌, List, [], ◌∷◌, ◌++◌, map, ℕ, zero, suc, ◌+◌, ◌-◌, ◌≤◌, ◌<◌, leb, ltb, ℤ, pos, negsuc, ◌+ℤ◌, ◌-ℤ◌, length, get_or, set, take, drop}
+use Rattle.std.specs.Prelude.{◌≡◌, refl, Bool, true, false, cond, ◌&&◌, List, [], ◌∷◌, ◌++◌, map, ℕ, zero, suc, ◌+◌, ◌≤◌, ◌<◌, leb, ℤ, pos, negsuc, ◌+ℤ◌, ◌-ℤ◌, length, get_or, set, take, drop}
 use Rattle.std.proofs.Math.Path.{sym, ap}
-use Rattle.std.proofs.Common.{ap₂, ◌∙◌, arith, add-one, le-leb, leb-true, to_z, length-set, take-suc, take-suc-set, take_all, ext_get_or}
+use Rattle.std.proofs.Common.{ap₂, ◌∙◌, arith, add-one, leb-true, to_z, length-set, take-suc, take-suc-set, take_all}
 use Rattle.std.proofs.Math.Bool.{and-eq-true_iff, and_assoc, and-true}
-use Rattle.std.proofs.lemmas.Bool.{lt-leb}
-use Rattle.std.proofs.Math.IntN.{+ℤ_idr}
 use Rattle.std.specs.Int.{w32}
 use Rattle.std.proofs.Math.Facts.{to_z_pos}
 use Rattle.std.proofs.lemmas.List.{length-map}
 use Rattle.std.proofs.Math.Seq.{drop-length}
-use Rattle.paper.specs.declared.Tok.{Tok}
 use Rattle.paper.specs.Basics.{most_tokens, most_elements, all}
-use Rattle.paper.specs.Tokens.{toks}
-use Rattle.paper.specs.Counts.{tally, counted, counts_by, fresh, moved_from, count_good}
+use Rattle.paper.specs.Counts.{count_good}
 use Rattle.basic_laws.specs.Bools.{clash}
 use Rattle.basic_laws.specs.Lists.{drop_next}
-use Rattle.tallies.specs.Tallies.{names_by, names_long, names_at, tallies, tallies_long, tallies_at, tallies_few}
+use Rattle.tallies.specs.Tallies.{names_by, names_long, names_at}
 
 -- ---- one count
 

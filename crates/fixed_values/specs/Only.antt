@@ -1,6 +1,6 @@
 -- One value alone at a place. Assumes nothing.
-use Rattle.std.specs.Prelude.{◌≡◌, refl, Bool, true, false, not, ◌&&◌, List, [], ◌∷◌, ℕ, zero, suc, ◌+◌, ◌/◌, ◌≤◌, eqb, take, drop, get_or}
-use Rattle.std.proofs.Common.{sym, ap, ◌∙◌, add-one, drop-drop}
+use Rattle.std.specs.Prelude.{◌≡◌, refl, Bool, true, not, ◌&&◌, List, [], ◌∷◌, ℕ, ◌+◌, ◌/◌, eqb, take, drop, get_or}
+use Rattle.std.proofs.Common.{sym, ap, ◌∙◌, drop-drop}
 use Rattle.std.proofs.Math.Dec.{eqb-suc-zero}
 use Rattle.paper.specs.declared.Tok.{Tok}
 use Rattle.paper.specs.declared.Tok.TheVariants.{Start, End, Text, Attr, Value, Bad}

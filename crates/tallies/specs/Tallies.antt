@@ -1,6 +1,6 @@
 -- The counts of names in some tokens: as a list of 48, and one token at a time. Assumes nothing.
-use Rattle.std.specs.Prelude.{◌≡◌, refl, ◌≢◌, Bool, true, false, cond, not, List, [], ◌∷◌, ◌++◌, ℕ, zero, suc, ◌+◌, ◌/◌, ◌≤◌, ◌<◌, eqb, ltb, length, get_or, set, take, replicate}
-use Rattle.std.proofs.Common.{sym, ap, ap₂, ◌∙◌, arith, add-one, eqb-true, eq-eqb, ltb-true, lt-ltb, le-ltb, Fits, length-take, length-set, take-suc, take_all, get_or-set_same, get_or-set_other, ext_get_or}
+use Rattle.std.specs.Prelude.{◌≡◌, refl, Bool, true, false, cond, not, List, [], ◌∷◌, ◌++◌, ℕ, zero, suc, ◌+◌, ◌/◌, ◌≤◌, ◌<◌, eqb, ltb, length, get_or, set, take, replicate}
+use Rattle.std.proofs.Common.{sym, ap, ap₂, ◌∙◌, arith, add-one, eqb-true, eq-eqb, lt-ltb, le-ltb, Fits, length-take, length-set, take-suc, take_all, get_or-set_same, get_or-set_other, ext_get_or}
 use Rattle.std.proofs.lemmas.List.{map-append, length-map}
 use Rattle.std.proofs.lemmas.Bool.{not-true, not-false}
 use Rattle.std.specs.Int.{w32}

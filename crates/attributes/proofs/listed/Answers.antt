@@ -1,5 +1,4 @@
 -- `attributes::listed` meets its contract. The loop's invariant is `Passing`; the measure is how many tokens are left. Assumes nothing.
-use Prim.Native.Nat.{◌-◌}
 use Rattle.attributes.specs.Attributes.{passing_begin, passing_attribute, passing_value, passing_other, passing_out}
 use Rattle.attributes.proofs.listed.Goals as goal
 use Rattle.attributes.proofs.listed.Goals.{else-loop-i-test, then-loop-i-test+else-is_attribute+else-is_value}

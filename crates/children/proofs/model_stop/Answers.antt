@@ -1,5 +1,4 @@
 -- `children::model_stop` meets its contract. The loop's invariant is `Running`; the measure is how many tokens are left. Assumes nothing.
-use Prim.Native.Nat.{◌-◌}
 use Rattle.children.specs.Model.{running_begin, running_out, running_end, running_text, running_lost, running_child, child_on, running_other}
 use Rattle.children.proofs.model_stop.Goals as goal
 

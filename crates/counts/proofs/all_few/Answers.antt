@@ -1,5 +1,4 @@
 -- `counts::all_few` meets its contract. Assumes nothing.
-use Prim.Native.Nat.{◌-◌}
 use Rattle.counts.specs.Moved.{looking_begin, looking_turn, looking_end}
 use borrow.Author.Rules.{rules}
 use Rattle.counts.proofs.all_few.Goals as goal

@@ -1,6 +1,5 @@
 -- `counts::move_all` meets its contract. Assumes nothing.
 use mathlib.Core.Path.{◌≡◌, ap, ◌∙◌}
-use Prim.Native.Nat.{◌-◌}
 use lib.IntN.{pos, ◌+ℤ◌, ◌-ℤ◌}
 use lib.ListN.{get_or}
 use mir.Syntax.{w32}

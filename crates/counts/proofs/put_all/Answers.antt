@@ -1,5 +1,4 @@
 -- `counts::put_all` meets its contract. Assumes nothing.
-use Prim.Native.Nat.{◌-◌}
 use Rattle.counts.specs.Moved.{put_small, putting_begin, putting_turn, putting_end}
 use borrow.Author.Rules.{rules}
 use Rattle.counts.proofs.put_all.Goals as goal

@@ -1,5 +1,4 @@
 use Rattle.depths.specs.Depths.{deepening_begin, deepening_turn, deepening_end}
-use Prim.Native.Nat.{◌-◌}
 use Rattle.depths.proofs.depth.Goals as goal
 
 pub loop-i-init : goal.loop-i-init

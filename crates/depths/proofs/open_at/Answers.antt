@@ -1,5 +1,4 @@
 use Rattle.depths.specs.Depths.{opened_begin, opened_turn, opened_none, opened_some, one_le}
-use Prim.Native.Nat.{◌-◌}
 use native.Mathlib.Omega.{arith}
 use Rattle.depths.proofs.open_at.Goals as goal
 

@@ -1,5 +1,4 @@
 -- `judge::first_fault` meets its contract. The loop's invariant is `Looking`; the measure is how many places are left. Assumes nothing.
-use Prim.Native.Nat.{◌-◌}
 use Rattle.judge.specs.Elements.{looking_begin, looking_none, looking_on, looking_other, looking_found}
 use Rattle.judge.proofs.first_fault.Goals as goal
 

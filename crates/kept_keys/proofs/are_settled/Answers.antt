@@ -1,5 +1,4 @@
 -- `kept_keys::are_settled` meets its contract. Assumes nothing.
-use Prim.Native.Nat.{◌-◌}
 use Rattle.key_walk.specs.Walk.{pass_less}
 use Rattle.kept_keys.specs.Settled.{settling_begin, settling_none, settling_more, settling_end}
 use Rattle.kept_keys.proofs.are_settled.Goals as goal

@@ -1,5 +1,4 @@
 -- `key_moves::enter` meets its contract. Assumes nothing.
-use Prim.Native.Nat.{◌-◌}
 use borrow.Author.Rules.{rules}
 use Rattle.key_walk.specs.Walk.{pass_less}
 use Rattle.key_moves.specs.Turns.{entering_begin, entering_room, entering_more, entering_end}

@@ -1,5 +1,4 @@
 -- `key_moves::leave` meets its contract. Assumes nothing.
-use Prim.Native.Nat.{◌-◌}
 use borrow.Author.Rules.{rules}
 use Rattle.key_walk.specs.Walk.{pass_less}
 use Rattle.key_moves.specs.Turns.{leaving_begin, leaving_enough, leaving_more, leaving_end}

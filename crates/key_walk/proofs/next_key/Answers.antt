@@ -1,5 +1,4 @@
 -- `key_walk::next_key` meets its contract. The loop: no key was passed; the measure is how many tokens are left. Assumes nothing.
-use Prim.Native.Nat.{◌-◌}
 use Rattle.key_walk.specs.Walk.{pass_less, came_none, came_on, found_none, found_key}
 use Rattle.key_walk.proofs.next_key.Goals as goal
 

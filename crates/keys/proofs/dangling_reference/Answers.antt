@@ -1,5 +1,4 @@
 -- `keys::dangling_reference` meets its contract. The invariant is `Looking`; the measure is how many tokens are left. Assumes nothing.
-use Prim.Native.Nat.{◌-◌}
 use borrow.Author.Rules.{rules}
 use Rattle.keys.specs.Looking.{look_none, look_end, look_in, look_read, look_pass, look_bit, look_found, look_more, look_less}
 use Rattle.keys.proofs.dangling_reference.Goals as goal

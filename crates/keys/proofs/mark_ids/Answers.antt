@@ -1,6 +1,5 @@
 -- `keys::mark_ids` meets its contract. The invariants are `Going` and, of the inner loop, `Among`; the measures are how many tokens are
 -- left. Assumes nothing.
-use Prim.Native.Nat.{◌-◌}
 use native.Mathlib.Omega.{arith}
 use borrow.Author.Rules.{rules}
 use Rattle.keys.specs.Turns.{going_none, going_end, going_twice, going_more, going_few, going_less, among_none, among_here, among_less, among_bit, among_more}

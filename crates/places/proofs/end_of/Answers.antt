@@ -1,5 +1,4 @@
 use Rattle.places.specs.EndTurns.{ending_begin, ending_found, ending_turn, ending_none}
-use Prim.Native.Nat.{◌-◌}
 use Rattle.places.proofs.end_of.Goals as goal
 
 pub loop-i-init : goal.loop-i-init

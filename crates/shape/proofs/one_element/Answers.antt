@@ -1,7 +1,6 @@
 use Rattle.scan.specs.Scan.{rules}
 use Rattle.shape.specs.ScanTurns.{scan_none, scan_no_start, scan_begin, scan_stop, scan_turn, scan_end, stands_open, stands_shallow}
 use mathlib.Core.Path.{refl}
-use Prim.Native.Nat.{◌-◌}
 use native.Mathlib.Omega.{arith}
 use Rattle.shape.proofs.one_element.Goals as goal
 

@@ -1,6 +1,5 @@
 -- `slots::slot_at` meets its contract. Assumes nothing.
 use Rattle.slots.specs.Counts.{slot_begin, slot_out, slot_stop, slot_turn}
-use Prim.Native.Nat.{◌-◌}
 use Rattle.slots.proofs.slot_at.Goals as goal
 
 pub loop-i-init : goal.loop-i-init

@@ -1,6 +1,5 @@
 -- `slots::values_at` meets its contract. Assumes nothing.
 use Rattle.slots.specs.Counts.{values_begin, values_out, values_stop, values_turn}
-use Prim.Native.Nat.{◌-◌}
 use Rattle.slots.proofs.values_at.Goals as goal
 
 pub loop-i-init : goal.loop-i-init

@@ -1,5 +1,4 @@
 -- `stops::texts_stop` meets its contract. The loop's invariant is `Reading`; the measure is how many tokens are left. Assumes nothing.
-use Prim.Native.Nat.{◌-◌}
 use Rattle.stops.specs.Texts.{reading_begin, reading_out, reading_end, reading_start, reading_other, reading_more, reading_text}
 use Rattle.stops.proofs.texts_stop.Goals as goal
 

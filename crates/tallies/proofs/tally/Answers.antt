@@ -1,5 +1,4 @@
 -- `tallies::tally` meets its contract. Assumes nothing.
-use Prim.Native.Nat.{◌-◌}
 use borrow.Author.Rules.{rules}
 use Rattle.tallies.specs.Tallies.{tallying_begin, tallying_room, tallying_turn, tallying_end}
 use Rattle.tallies.proofs.tally.Goals as goal
