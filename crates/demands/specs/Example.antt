@@ -8,7 +8,7 @@ use Rattle.paper.specs.SmallShade.{buffer, second, counts}
 use Rattle.contracts.specs.{Allows}
 use Rattle.promises.specs.Right.{EachRight}
 use Rattle.promises.specs.Statements.{Translated, Runs}
-use Rattle.promises.specs.Example as example
+use Rattle.promises.proofs.Example as example
 use Rattle.shrikemuff.proofs.Contracts.{shrike_translate, shrike_edit}
 use Rattle.demands.specs.Shrikes.{shrikes}
 use Rattle.demands.specs.Theorems.{demand_3}

@@ -7,13 +7,13 @@ use Rattle.promises.specs.Lists as lists
 use Rattle.promises.specs.Groups as groups
 use Rattle.promises.specs.Inclusion as inclusion
 use Rattle.promises.specs.Cost as cost
-use Rattle.promises.specs.Theorems as proved
-use Rattle.promises.specs.UndoTheorems as undone
-use Rattle.promises.specs.ListTheorems as listed
+use Rattle.promises.proofs.Theorems as proved
+use Rattle.promises.proofs.UndoTheorems as undone
+use Rattle.promises.proofs.ListTheorems as listed
 use Rattle.promises.specs.Counts as counts
-use Rattle.promises.specs.CountTheorems as counted
-use Rattle.promises.specs.GroupTheorems as grouped
-use Rattle.promises.specs.DtdTheorems as texts
+use Rattle.promises.proofs.CountTheorems as counted
+use Rattle.promises.proofs.GroupTheorems as grouped
+use Rattle.promises.proofs.DtdTheorems as texts
 use Rattle.demands.specs.Shrikes.{shrikes, faithful}
 
 -- ---- every call

@@ -27,7 +27,7 @@ use Rattle.table_laws.specs.Parts.{table_parts}
 use Rattle.count_laws.specs.Laws.{tally_tree, moved_true, fresh_good, fresh_length, fresh_at, fresh_past}
 use Rattle.count_laws.specs.Limits.{limit_counts, limit_iff, never_met}
 use Rattle.promises.specs.Calls.{papers}
-use Rattle.promises.specs.Always.{edit_keeps, edit_leaves}
+use Rattle.promises.proofs.Always.{edit_keeps, edit_leaves}
 use Rattle.promises.specs.Counts.{TrueOnTree, EditTrue, ListTrue, EditFifteen, EditNever15, CheckWrites, TellDeterminate, TellAnswers, TellsTree}
 
 -- ---- on the tree

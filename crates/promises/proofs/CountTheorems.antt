@@ -1,7 +1,7 @@
 -- The promises of item 7, proved: a line for each statement. Assumes nothing.
 use Rattle.promises.specs.Calls.{Calls, Faithful}
 use Rattle.promises.specs.Counts as promised
-use Rattle.promises.specs.Counted as counted
+use Rattle.promises.proofs.Counted as counted
 
 pub true_on_tree : promised.TrueOnTree
 true_on_tree = counted.on_tree

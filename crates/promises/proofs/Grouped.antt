@@ -19,8 +19,8 @@ use Rattle.group_laws.specs.Numbers.{group_answers_lem}
 use Rattle.promises.specs.Calls.{papers}
 use Rattle.promises.specs.Statements.{Translated}
 use Rattle.promises.specs.Groups.{Begins, FirstKept, Stops, SecondHolds, GroupRight, GroupDeterminate, GroupAnswers, GroupOrder, GroupKeeps, GroupSecond, GroupLengths}
-use Rattle.promises.specs.Written.{written_valid}
-use Rattle.promises.specs.ByTable.{table_proper, table_reads}
+use Rattle.promises.proofs.Written.{written_valid}
+use Rattle.promises.proofs.ByTable.{table_proper, table_reads}
 
 -- ---- every group
 

@@ -13,7 +13,7 @@ use Rattle.paper.specs.Inclusion.{Takes, ShortestOf, takes, shortest_lost, Compa
 use Rattle.inclusion_laws.specs.Words.{Answer}
 use Rattle.inclusion_laws.proofs.Theorems.{right, takes_means}
 use Rattle.promises.specs.Calls.{papers}
-use Rattle.promises.specs.ByTable.{table_proper, table_reads}
+use Rattle.promises.proofs.ByTable.{table_proper, table_reads}
 use Rattle.promises.specs.Inclusion.{InOrder, Told, CompareDeterminate, CompareKeeps, CompareOrder, CompareTells, CompareByExpressions, CompareMeans}
 
 pub determinate : CompareDeterminate papers

@@ -18,7 +18,7 @@ use Rattle.promises.specs.Right.{InForm}
 use Rattle.promises.specs.Statements.{EditIsTreeEdit}
 use Rattle.answer_laws.specs.ShapeParts.{shape_element}
 use Rattle.shape_laws.specs.Written.{written_take}
-use Rattle.promises.specs.Always.{edit_leaves}
+use Rattle.promises.proofs.Always.{edit_leaves}
 
 -- what was done had shape, was in form, and had room for its inverse
 module _ (table buffer : List ℕ) (used : ℕ) (q : Request) (second : List ℕ) (counts : List ℤ) (o : Outcome) where

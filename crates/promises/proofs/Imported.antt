@@ -22,7 +22,7 @@ use Rattle.dtd_schema_laws.specs.Theorems as laws
 use Rattle.dtd_stays_laws.specs.Theorems as stays
 use Rattle.promises.specs.Calls.{papers}
 use Rattle.promises.specs.Statements.{Bytes}
-use Rattle.promises.specs.ByFile.{translate_length}
+use Rattle.promises.proofs.ByFile.{translate_length}
 use Rattle.promises.specs.Dtd.{Declares, Room, Turned, Spotted, Agrees, FileTranslated, FaultStays, ImportThenTranslate, Numbered, ContentByText, ValidBySchema}
 
 -- ---- a text that is taken

@@ -29,7 +29,7 @@ use Rattle.promises.specs.Calls.{papers}
 use Rattle.promises.specs.Right.{Kept, TrueBeside, Step, EachRight}
 use Rattle.promises.specs.Statements.{Runs}
 use Rattle.promises.specs.Undo.{Roomy}
-use Rattle.promises.specs.Always.{edit_keeps}
+use Rattle.promises.proofs.Always.{edit_keeps}
 use Rattle.promises.specs.Lists.{IsList, Broken, TooMany, ListForms, Steps, last_of, done_in, AsSingles, ListDeterminate, ListAnswers, ListFaults, ListIsSingles, ListStands}
 
 -- ---- which lists are taken

@@ -24,10 +24,10 @@ use Rattle.shape_laws.specs.Written.{written_take}
 use Rattle.promises.specs.Calls.{papers}
 use Rattle.promises.specs.Right.{Kept, Left, InForm, TrueBeside, Right, Step, EachRight}
 use Rattle.promises.specs.Statements.{Translated, Runs}
-use Rattle.promises.specs.Written.{written_valid}
+use Rattle.promises.proofs.Written.{written_valid}
 use Rattle.answer_laws.specs.ShapeParts.{and_right, shape_long, shape_element}
-use Rattle.promises.specs.Always.{edit_keeps, edit_leaves}
-use Rattle.promises.specs.ByTable.{edit_judged, table_reads}
+use Rattle.promises.proofs.Always.{edit_keeps, edit_leaves}
+use Rattle.promises.proofs.ByTable.{edit_judged, table_reads}
 
 -- ---- an answer with number 0 has place 0
 

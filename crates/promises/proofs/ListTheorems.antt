@@ -1,8 +1,8 @@
 -- The promises of item 6, proved: a line for each statement. Assumes nothing.
 use Rattle.promises.specs.Calls.{Calls, papers, Faithful, papers_faithful}
-use Rattle.promises.specs.Theorems.{by_paper, runs_by_paper, demand_3}
+use Rattle.promises.proofs.Theorems.{by_paper, runs_by_paper, demand_3}
 use Rattle.promises.specs.Lists as promised
-use Rattle.promises.specs.Listed as listed
+use Rattle.promises.proofs.Listed as listed
 
 pub list_forms : promised.ListForms
 list_forms = listed.forms

@@ -12,7 +12,7 @@ use Rattle.paper.specs.Dtd.Imported.{import}
 use Rattle.dtd_schema_laws.specs.Theorems.{taken}
 use Rattle.promises.specs.Calls.{papers, papers_faithful}
 use Rattle.promises.specs.Dtd.{Declares, Imported, ValidInBuffer}
-use Rattle.promises.specs.DtdTheorems.{check_by_text}
+use Rattle.promises.proofs.DtdTheorems.{check_by_text}
 
 abbrev text : List ℕ
 text = ascii "<!ELEMENT a (b*)><!ATTLIST a x CDATA #IMPLIED><!ELEMENT b EMPTY>"

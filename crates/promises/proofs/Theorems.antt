@@ -24,16 +24,16 @@ use Rattle.promises.specs.Calls.{Calls, papers, Faithful}
 use Rattle.promises.specs.Statements as promised
 use Rattle.promises.specs.Statements.{Translated, Runs}
 use Rattle.promises.specs.Right.{Step}
-use Rattle.promises.specs.Always as always
-use Rattle.promises.specs.ByTable as by_table
-use Rattle.promises.specs.ByFile as by_file
-use Rattle.promises.specs.OnTree as on_tree
-use Rattle.promises.specs.Pointing as pointing
-use Rattle.promises.specs.Run.{run_right}
+use Rattle.promises.proofs.Always as always
+use Rattle.promises.proofs.ByTable as by_table
+use Rattle.promises.proofs.ByFile as by_file
+use Rattle.promises.proofs.OnTree as on_tree
+use Rattle.promises.proofs.Pointing as pointing
+use Rattle.promises.proofs.Run.{run_right}
 use Rattle.promises.specs.Cost as cost
-use Rattle.promises.specs.Costing as costing
+use Rattle.promises.proofs.Costing as costing
 use Rattle.promises.specs.Inclusion as inclusion
-use Rattle.promises.specs.Compared as compared
+use Rattle.promises.proofs.Compared as compared
 
 -- ---- what the tests and sets of the paper mean
 

@@ -11,8 +11,8 @@ use Rattle.shape_laws.proofs.Widths.{own_is}
 use Rattle.shape_laws.proofs.EditLooked.{looked_is, parent_looked, piece_comes}
 use Rattle.answer_laws.specs.ShapeParts.{shape_element}
 use Rattle.promises.specs.Calls.{papers}
-use Rattle.promises.specs.Always.{edit_leaves}
-use Rattle.promises.specs.OnTree.{done_form}
+use Rattle.promises.proofs.Always.{edit_leaves}
+use Rattle.promises.proofs.OnTree.{done_form}
 use Rattle.promises.specs.Cost.{EditCostBounded}
 
 -- no more comes than the piece

@@ -8,9 +8,9 @@ use Rattle.dtd_laws.specs.Unique.{unique}
 use Rattle.answer_laws.specs.Import as import
 use Rattle.promises.specs.Calls.{Calls, Faithful}
 use Rattle.promises.specs.Dtd as dtd
-use Rattle.promises.specs.Always as always
-use Rattle.promises.specs.Imported as imported
-use Rattle.promises.specs.Theorems.{check_valid, demand_3}
+use Rattle.promises.proofs.Always as always
+use Rattle.promises.proofs.Imported as imported
+use Rattle.promises.proofs.Theorems.{check_valid, demand_3}
 
 -- ---- texts
 

@@ -23,9 +23,9 @@ use Rattle.promises.specs.Calls.{Calls, papers}
 use Rattle.promises.specs.Right.{TrueBeside, Right, Step}
 use Rattle.promises.specs.Statements.{Runs}
 use Rattle.shape_laws.specs.Written.{written_take, written_length}
-use Rattle.promises.specs.Written.{written_back, held_long, held_length, valid_alone}
-use Rattle.promises.specs.Always.{edit_leaves}
-use Rattle.promises.specs.OnTree.{done_form}
+use Rattle.promises.proofs.Written.{written_back, held_long, held_length, valid_alone}
+use Rattle.promises.proofs.Always.{edit_leaves}
+use Rattle.promises.proofs.OnTree.{done_form}
 use Rattle.promises.specs.Undo.{leaves, AllDone, EndsAt, Roomy, asked_in, inverses_in, NeedsMost, EditSecond, BackReads}
 
 -- ---- the second buffer

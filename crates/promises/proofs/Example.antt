@@ -19,7 +19,7 @@ use Rattle.paper.specs.SmallShade.{shade, small, buffer, second, counts}
 use Rattle.promises.specs.Calls.{papers, papers_faithful}
 use Rattle.promises.specs.Right.{TrueBeside, Step, EachRight}
 use Rattle.promises.specs.Statements.{Translated, Runs}
-use Rattle.promises.specs.Theorems.{check_valid, demand_3}
+use Rattle.promises.proofs.Theorems.{check_valid, demand_3}
 
 -- ---- schema, document, edits
 

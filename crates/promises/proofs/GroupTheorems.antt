@@ -8,12 +8,12 @@ use Rattle.paper.specs.Counts.{TrueCounts, checked_counts}
 use Rattle.paper.specs.Validity.{ValidDocument}
 use Rattle.promises.specs.Calls.{Calls, papers, Faithful, papers_faithful}
 use Rattle.promises.specs.Statements.{Translated}
-use Rattle.promises.specs.Theorems.{by_paper, check_valid, check_by_expressions, table_reads, demand_3}
-use Rattle.promises.specs.CountTheorems.{check_writes}
+use Rattle.promises.proofs.Theorems.{by_paper, check_valid, check_by_expressions, table_reads, demand_3}
+use Rattle.promises.proofs.CountTheorems.{check_writes}
 use Rattle.promises.specs.Right.{TrueBeside}
 use Rattle.promises.specs.Groups as promised
-use Rattle.promises.specs.Grouped as grouped
-use Rattle.promises.specs.GroupOne as one
+use Rattle.promises.proofs.Grouped as grouped
+use Rattle.promises.proofs.GroupOne as one
 
 valid_iff : (s : Schema) (table : List ℕ) → Translated papers s table
     → (buffer : List ℕ) (used : ℕ) → ((checking (of_schema s) buffer used).0 ≡ 0) ↔ ValidDocument s buffer used

@@ -7,9 +7,9 @@ use Rattle.paper.specs.Edits.{Outcome}
 use Rattle.promises.specs.Calls.{Calls, Faithful}
 use Rattle.promises.specs.Right.{TrueBeside, Right}
 use Rattle.promises.specs.Statements.{Translated}
-use Rattle.promises.specs.Theorems.{demand_3}
+use Rattle.promises.proofs.Theorems.{demand_3}
 use Rattle.promises.specs.Undo as promised
-use Rattle.promises.specs.Undone as undone
+use Rattle.promises.proofs.Undone as undone
 
 pub needs_most : promised.NeedsMost
 needs_most = undone.most
