@@ -1,7 +1,7 @@
 -- The demands are not empty: the small shade and its five edits, by the contracts of the library. Assumes nothing.
 use Rattle.std.specs.Prelude.{◌≡◌, refl, List, [], ◌∷◌, ℕ, ℤ}
 use contract.Lifetimes.{Lfts}
-use Rattle.std.specs.Borrow.{Bor}
+use Rattle.std.specs.Borrow.{Bor, MutBor}
 use Rattle.paper.specs.Table.{table_of, translate}
 use Rattle.paper.specs.Edits.{Request, Outcome, edit}
 use Rattle.paper.specs.SmallShade.{buffer, second, counts}
@@ -19,16 +19,20 @@ use Rattle.demands.specs.Theorems.{demand_3}
 abbrev lent : List ℕ → Bor (List ℕ)
 lent l = record { ref_ptr = (0, 0); now = l }
 
+-- .. and one that is lent to be written
+abbrev lent_mut : List ℕ → MutBor (List ℕ)
+lent_mut l = record { ref_ptr = (0, 0); ghost_name = 0; now = l }
+
 -- .. and of counts
-abbrev lentℤ : List ℤ → Bor (List ℤ)
-lentℤ l = record { ref_ptr = (0, 0); now = l }
+abbrev lentℤ : List ℤ → MutBor (List ℤ)
+lentℤ l = record { ref_ptr = (0, 0); ghost_name = 0; now = l }
 
 translates : (file table : List ℕ) → Allows shrike_translate (file, table) (translate file table)
 translates file table = let o : ℕ × List ℕ = translate file table in record {
   κs = ([], ([], tt));
-  given = (lent file, (lent table, tt));
+  given = (lent file, (lent_mut table, tt));
   result = o.0;
-  after = (lent file, (lent o.1, tt));
+  after = (lent file, (lent_mut o.1, tt));
   its_input = refl;
   its_outcome = refl;
   told = refl;
@@ -38,9 +42,9 @@ performs : (table buffer : List ℕ) (used : ℕ) (q : Request) (second : List �
     → Allows shrike_edit (table, buffer, used, q, second, counts) (edit table buffer used q second counts)
 performs table buffer used q second counts = let o : Outcome = edit table buffer used q second counts in record {
   κs = ([], ([], ([], ([], ([], tt)))));
-  given = (lent table, (lent buffer, (used, (q.operation, (q.place, (lent q.piece, (lent second, (lentℤ counts, tt))))))));
+  given = (lent table, (lent_mut buffer, (used, (q.operation, (q.place, (lent q.piece, (lent_mut second, (lentℤ counts, tt))))))));
   result = record { number = o.number; place = o.place; used = o.used; change = o.change; children = o.children };
-  after = (lent table, (lent o.buffer, (used, (q.operation, (q.place, (lent q.piece, (lent o.back, (lentℤ o.counts, tt))))))));
+  after = (lent table, (lent_mut o.buffer, (used, (q.operation, (q.place, (lent q.piece, (lent_mut o.back, (lentℤ o.counts, tt))))))));
   its_input = refl;
   its_outcome = refl;
   told = refl;
