@@ -1,5 +1,5 @@
 -- The answer with what it leaves, as the paper's outcome. Assumes nothing.
-use Rattle.std.specs.Prelude.{◌≡◌, refl, Bool, true, false, not, ◌&&◌, leb, ℤ, pos, ◌-ℤ◌, get_or}
+use Rattle.std.specs.Prelude.{◌≡◌, refl, Bool, true, false, not, ◌&&◌, leb, ℤ, pos, ◌-ℤ◌}
 use Rattle.std.proofs.Math.Path.{sym, ap, ap₂, subst}
 use Rattle.std.proofs.Common.{◌∙◌}
 use Rattle.std.proofs.Math.Bool.{and-eq-true_iff}
@@ -9,7 +9,7 @@ use native.Mathlib.Omega.{arith}
 use borrow.Author.Tests.{leb-true, ne_eqb, not-true, not-false}
 use Rattle.std.proofs.Math.ListN.{length, take, drop, length-take}
 use Rattle.std.proofs.Math.Seq.{take-take, length-take-le}
-use Rattle.paper.specs.Basics.{most_tokens, most_elements, all}
+use Rattle.paper.specs.Basics.{most_tokens, all}
 use Rattle.paper.specs.Tokens.{toks, touched}
 use Rattle.paper.specs.Shape.{shallow, shape_of}
 use Rattle.paper.specs.Table.{proper}
@@ -30,7 +30,6 @@ use Rattle.form.specs.Size.{size_is}
 use Rattle.shape_laws.specs.Shaped.{shaped}
 use Rattle.back_laws.specs.Taken.{shape_document}
 use Rattle.back_laws.specs.Sizes.{size_form, size_short, size_iff}
-use Rattle.table_laws.specs.Parts.{table_parts}
 use Rattle.count_laws.specs.Limits.{limit_size, limit_counts, limit_iff}
 use Rattle.counts.specs.Moved.{few}
 use Rattle.counts.specs.Whole.{Moved}

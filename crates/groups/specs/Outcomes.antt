@@ -1,5 +1,5 @@
 -- A group's answer with what it leaves, as the outcome of item 9. Assumes nothing.
-use Rattle.std.specs.Prelude.{◌≡◌, refl, ◌⊎◌, Bool, true, false, not, List, [], ◌∷◌, ◌++◌, ℕ, suc, ◌+◌, ◌-◌, ◌≤◌, ◌<◌, max, pos, ◌-ℤ◌, length, take, drop, replicate}
+use Rattle.std.specs.Prelude.{◌≡◌, refl, Bool, true, false, not, List, ◌++◌, ℕ, ◌+◌, ◌-◌, ◌≤◌, ◌<◌, max, pos, ◌-ℤ◌, length, take, drop, replicate}
 use Rattle.std.proofs.Common.{sym, ap, ap₂, ◌∙◌, inl, inr, arith, zero-add, drop-drop, length-take-le}
 use borrow.Author.Tests.{le-leb, lt-leb, ne_eqb, not-true, not-false}
 use Rattle.std.proofs.Math.Seq.{paste, drop-append-add}

@@ -1,8 +1,7 @@
 -- What the judgement of an edited document gives, by what is kept of IDs and references. Assumes nothing.
-use Rattle.std.specs.Prelude.{◌≡◌, refl, Bool, true, false, cond, List, [], ◌∷◌, map, ℕ, zero, suc, ◌/◌, eqb, length, take, get_or}
-use Rattle.std.proofs.Common.{sym, ap, ◌∙◌, arith, eqb-true, eq-eqb, length-take-le}
+use Rattle.std.specs.Prelude.{◌≡◌, refl, Bool, true, false, cond, List, [], ◌∷◌, map, ℕ, zero, suc, ◌/◌, length, take, get_or}
+use Rattle.std.proofs.Common.{sym, ap, ◌∙◌, arith, eqb-true, length-take-le}
 use Rattle.std.proofs.lemmas.Bool.{eqb-false}
-use Rattle.basic_laws.specs.Bools.{clash}
 use Rattle.paper.specs.Basics.{elem}
 use Rattle.paper.specs.declared.Tok.{Tok}
 use Rattle.paper.specs.Tokens.{toks}

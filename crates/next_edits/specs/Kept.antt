@@ -1,5 +1,5 @@
 -- After a done edit of a list: the document has no fault of 11 or 12, and what is kept is that of the document. Assumes nothing.
-use Rattle.std.specs.Prelude.{◌≡◌, refl, Bool, true, false, cond, List, [], ℕ, zero, suc, ◌≤◌, eqb, ℤ, length, take}
+use Rattle.std.specs.Prelude.{◌≡◌, refl, Bool, true, false, cond, List, ℕ, zero, suc, ◌≤◌, eqb, ℤ, length, take}
 use Rattle.std.proofs.Common.{sym, ap, ap₂, subst, ◌∙◌, arith, eqb-true, length-take-le}
 use Rattle.paper.specs.Tokens.{toks}
 use Rattle.paper.specs.Shape.{shape_of}

@@ -1,19 +1,18 @@
 -- The elements of a piece, judged by the tokens of the piece alone: what stands behind an element's end is not asked for.
 -- Assumes nothing.
-use Rattle.std.specs.Prelude.{◌≡◌, refl, Bool, true, false, cond, List, [], ◌∷◌, ◌++◌, ◌⊎◌, ℕ, zero, suc, ◌+◌, ◌≤◌, ◌<◌, eqb, length}
-use Rattle.std.proofs.Common.{sym, ap, ap₂, ◌∙◌, inl, inr, add-zero, add-suc, suc-add, arith}
+use Rattle.std.specs.Prelude.{◌≡◌, refl, Bool, true, false, cond, List, [], ◌∷◌, ◌++◌, ℕ, zero, suc, ◌+◌, ◌≤◌, ◌<◌, eqb, length}
+use Rattle.std.proofs.Common.{ap, ap₂, ◌∙◌, inl, inr, arith}
 use Rattle.std.proofs.Math.Decide.{dec_lt}
 use Rattle.paper.specs.declared.Tok.{Tok}
 use Rattle.paper.specs.declared.Tok.TheVariants.{Start, End, Text, Attr, Value, Bad}
 use Rattle.paper.specs.Tokens.{heads, kids, child_at, close, closes_of, level_of, starts}
-use Rattle.paper.specs.Shape.{is_element}
 use Rattle.paper.specs.Rules.{Rules}
-use Rattle.paper.specs.Judgement.{Answer, none_found, or_else, content_begun, stop_after, element_fault, fault_at, first, stop_in, place_of, whole}
+use Rattle.paper.specs.Judgement.{Answer, or_else, content_begun, stop_after, element_fault, fault_at, first, stop_in, place_of, whole}
 use Rattle.paper.specs.Edits.{opens}
 use Rattle.basic_laws.specs.Bools.{clash}
 use Rattle.shape_laws.specs.Depth.{count}
 use Rattle.shape_laws.specs.Keep.{element_parts, from_start}
-use Rattle.shape_laws.specs.Five.{Whole, element, one_text}
+use Rattle.shape_laws.specs.Five.{element, one_text}
 use Rattle.shape_laws.specs.Widths.{Comes}
 use Rattle.places.specs.Items.{close_le}
 use Rattle.closing.specs.Closing.{close_outer, close_none}

@@ -10,7 +10,7 @@ use Rattle.paper.specs.Judgement.{Answer, or_else, first, element_fault, place_o
 use Rattle.shape_laws.specs.Bridge.{toks_take, toks_drop, length_toks}
 use Rattle.shape_laws.specs.Widths.{Comes}
 use Rattle.keys.specs.declared.Fault.{Fault}
-use Rattle.judge.specs.Elements.{span, first_in, first_whole, Looking, looking_begin}
+use Rattle.judge.specs.Elements.{span, first_in, first_whole, looking_begin}
 use Rattle.piece_faults.specs.Alone.{Only, moved_to, first_alone, first_moved, first_within}
 
 -- the first fault among the elements of a piece, by the piece alone

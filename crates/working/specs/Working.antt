@@ -1,7 +1,7 @@
 -- The edits of a group, worked on a second buffer: one turn, what holds between turns, and how they end. Assumes nothing.
-use Rattle.std.specs.Prelude.{◌≡◌, refl, true, List, [], ◌∷◌, ℕ, suc, ◌+◌, ◌-◌, ◌≤◌, ◌<◌, max, length, take, drop, replicate}
+use Rattle.std.specs.Prelude.{◌≡◌, refl, true, List, ◌∷◌, ℕ, suc, ◌+◌, ◌-◌, ◌≤◌, ◌<◌, max, length, take}
 use Rattle.std.proofs.Common.{sym, ap, ap₂, subst, ◌∙◌, arith, ne_eqb, length-take, take-append-drop, take-take, length-take-le}
-use Rattle.paper.specs.Basics.{most_tokens, most_edits}
+use Rattle.paper.specs.Basics.{most_edits}
 use Rattle.paper.specs.Shape.{shape_of}
 use Rattle.paper.specs.Edits.{Request, edited, form_fault, written}
 use Rattle.paper.specs.Lists.{edits, split_list, fault_of}

@@ -1,6 +1,5 @@
 -- `cost::items` meets its contract. The loop's invariant is `Tallying`; the measure is how many tokens are left. Assumes nothing.
 use mathlib.Core.Bool.{◌||◌}
-use Prim.Native.Nat.{◌-◌}
 use native.Mathlib.Omega.{arith}
 use Rattle.depths.specs.Depths.{one_le}
 use Rattle.cost.specs.Items.{tallying_begin, tallying_turn, tallying_out}

@@ -1,5 +1,4 @@
 -- `edit_list::list_fault` meets its contract. The loop's invariant is `Begun`; the measure is how many numbers are left. Assumes nothing.
-use Prim.Native.Nat.{◌-◌}
 use native.Mathlib.Omega.{arith}
 use Rattle.edit_list.specs.Faults.{empty_fault, begun_none, begun_end, begun_over, begun_broken, begun_within, begun_next, begun_less}
 use Rattle.edit_list.proofs.list_fault.Goals as goal

@@ -1,6 +1,5 @@
 -- `lists::go_on` meets its contract. The loop's invariant is `GoingKept`; the measure is how many numbers are left. Assumes nothing.
 use mathlib.Core.Path.{◌∙◌}
-use Prim.Native.Nat.{◌-◌}
 use native.Mathlib.Omega.{arith}
 use Rattle.lists.specs.Kept.{kept_none, kept_end, kept_within, kept_few, kept_refused, kept_next, kept_less}
 use Rattle.lists.proofs.go_on.Goals as goal

@@ -1,6 +1,5 @@
 -- `working::turns` meets its contract. The loop's invariant is `Working`; the measure is how many numbers are left. Assumes nothing.
 use mathlib.Core.Path.{refl, ◌∙◌}
-use Prim.Native.Nat.{◌-◌}
 use native.Mathlib.Omega.{arith}
 use borrow.Author.Rules.{rules}
 use Rattle.working.specs.Working.{working_none, working_room, working_within, working_shape, working_end, working_edit, working_few, working_refused, working_next, working_less}
