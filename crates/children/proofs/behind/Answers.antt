@@ -12,10 +12,10 @@ overflow_add-result c =
     search (rules, e, h)
 
 pub overflow_cast-result : goal.overflow_cast-result
-overflow_cast-result c = omega (arith, c.shared_slice_known-then-j-used-1.given (c.args.i + 1))
+overflow_cast-result c = omega (arith, c.type_inv.closes (c.args.i + 1))
 
 pub overflow_add-result-then-j-used : goal.overflow_add-result-then-j-used
-overflow_add-result-then-j-used c = omega (arith, c.shared_slice_known-then-j-used-1.given (c.args.i + 1))
+overflow_add-result-then-j-used c = omega (arith, c.type_inv.closes (c.args.i + 1))
 
 pub returns-then-j-used : goal.returns-then-j-used
 returns-then-j-used c = search behind_end

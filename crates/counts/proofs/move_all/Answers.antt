@@ -4,7 +4,6 @@ use lib.IntN.{pos, ◌+ℤ◌, ◌-ℤ◌}
 use lib.ListN.{get_or}
 use mir.Syntax.{w32}
 use mir.Val.{to_z, of_z}
-use mir.Facts.{to_z-of_z}
 use Rattle.counts.specs.Moved.{within, few_each, moving_begin, moving_turn, moving_end}
 use borrow.Author.Rules.{rules}
 use Rattle.counts.proofs.move_all.Goals as goal
@@ -20,7 +19,7 @@ loop-e-preserved c =
     let a = c.args in
     let l = c.loop-e in
     let v : c.moved_one-n.result ≡ within (to_z w32 (of_z w32 (get_or a.counts.now l.e (pos 0))) +ℤ pos (get_or a.comes.now l.e 0) -ℤ pos (get_or a.goes.now l.e 0)) = c.moved_one-n.ensures in
-    let t : to_z w32 (of_z w32 (get_or a.counts.now l.e (pos 0))) ≡ get_or a.counts.now l.e (pos 0) = to_z-of_z {w = w32} (record { sfits = c.moved_one-arg-1.given }) in
+    let t : to_z w32 (of_z w32 (get_or a.counts.now l.e (pos 0))) ≡ get_or a.counts.now l.e (pos 0) = search rules in
     search (rules, moving_turn a.counts.now a.goes.now a.comes.now, v ∙ ap (λ z. within (z +ℤ pos (get_or a.comes.now l.e 0) -ℤ pos (get_or a.goes.now l.e 0))) t)
 
 pub returns : goal.returns

@@ -5,7 +5,7 @@ use Rattle.edit_list.specs.Places.{handed}
 use Rattle.edit_list.proofs.edit_at.Goals as goal
 
 pub overflow_cast-count : goal.overflow_cast-count
-overflow_cast-count c = omega (arith, c.shared_slice_known-1.given (c.args.at + 2))
+overflow_cast-count c = omega (arith, c.type_inv.list (c.args.at + 2))
 
 pub returns : goal.returns
 returns c = search handed

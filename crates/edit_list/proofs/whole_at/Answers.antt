@@ -8,7 +8,7 @@ pub returns-then-left-lt-BACK_PIECE : goal.returns-then-left-lt-BACK_PIECE
 returns-then-left-lt-BACK_PIECE c = search whole_short
 
 pub overflow_cast-count : goal.overflow_cast-count
-overflow_cast-count c = omega (arith, c.shared_slice_known-1.given (c.args.at + 2))
+overflow_cast-count c = omega (arith, c.type_inv.list (c.args.at + 2))
 
 pub returns : goal.returns
 returns c = search whole_long
