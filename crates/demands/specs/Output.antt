@@ -1,9 +1,8 @@
--- The edit program's output, of any outcome that the contract of `program::output` allows. Assumes nothing.
-use Rattle.std.specs.Prelude.{◌≡◌, Bool, List, ℕ}
+-- The edit program's output, as a call, and what is promised of it; proofs/ has the proofs. Assumes nothing.
+use Rattle.std.specs.Prelude.{Bool, List, ℕ}
 use Rattle.paper.specs.Program.{printed}
-use Rattle.contracts.specs.{Call, TakesAll, Allows, allowed}
-use Rattle.promises.specs.Statements.{Determinate}
-use Rattle.lines.specs.Put.{Put, put_same}
+use Rattle.contracts.specs.{Call}
+use Rattle.lines.specs.Put.{Put}
 use Rattle.program.specs.Stages.{given as file}
 use Rattle.program.proofs.output.Kinds as output-kinds
 use Rattle.program.proofs.output.Reads as output
@@ -28,19 +27,6 @@ program_output = record {
   outcome = λ κs result after. (result, after.1.1.1.1.0.now);
 }
 
-pub takes_all : TakesAll program_output
-takes_all κs given = tt
-
 -- what is put into the buffer is what the paper says is printed
 abbrev pub Printed : Files → ℕ × List ℕ → Type 0
 Printed i o = Put i.out 0 (printed (file i.opened i.schema) (file i.opened i.doc) (file i.opened i.edits)) o.0 o.1
-
-pub prints : (i : Files) (o : ℕ × List ℕ) → Allows program_output i o → Printed i o
-prints = allowed program_output Printed (λ κs given result after told. told)
-
--- one outcome for one input
-pub determinate : Determinate (Allows program_output)
-determinate i o p a b = let (n, m) = put_same (prints i o a) (prints i p b) in both n m
-  where
-    both : {n m : ℕ} {s t : List ℕ} → n ≡ m → s ≡ t → ◌≡◌ {A = ℕ × List ℕ} (n, s) (m, t)
-    both e f = rw (e, f)
