@@ -1,5 +1,4 @@
 -- `edit_file::put_piece` meets its contract. The loop's invariant is `Filling`; the measure is how many numbers are left. Assumes nothing.
-use Prim.Native.Nat.{◌-◌}
 use Rattle.edit_file.specs.Piece.{fill_none, fill_end, fill_stop, fill_more}
 use Rattle.edit_file.proofs.put_piece.Goals as goal
 

@@ -1,6 +1,5 @@
 -- `edit_lines::put_edits` meets its contract. The loop's invariant is `Going`; the measure is how many bytes of the file are left. Assumes nothing.
 use mathlib.Core.Path.{◌∙◌}
-use Prim.Native.Nat.{◌-◌}
 use native.Mathlib.Omega.{arith}
 use borrow.Author.Rules.{rules}
 use Rattle.edit_lines.specs.Run.{go_none, go_end, go_room, go_stop, go_halt, go_less, go_more}
