@@ -1,6 +1,5 @@
 -- The demands are not empty: the small shade and its five edits, by the contracts of the library. Assumes nothing.
-use Rattle.std.specs.Prelude.{◌≡◌, refl, List, [], ◌∷◌, ℕ, ℤ}
-use contract.Lifetimes.{Lfts}
+use Rattle.std.specs.Prelude.{refl, List, [], ◌∷◌, ℕ, ℤ}
 use Rattle.std.specs.Borrow.{Bor, MutBor}
 use Rattle.paper.specs.Table.{table_of, translate}
 use Rattle.paper.specs.Edits.{Request, Outcome, edit}
