@@ -843,8 +843,8 @@ def read_case(file, buffer):
     number, count, after = ref.read(file, buffer)
     call = 'read %s %s' % (term(file), term(buffer))
     holds = 'counts (%s) %d %d %s' % (call, number, count, term(after))
-    probes = [('number', '(%s) .number' % call, 4), ('count', '(%s) .count' % call, 14),
-              ('buffer as expected', 'same ((%s) .buffer) %s' % (call, term(after)), None)]
+    probes = [('number', '(%s).number' % call, 4), ('count', '(%s).count' % call, 14),
+              ('buffer as expected', 'same ((%s).buffer) %s' % (call, term(after)), None)]
     return Case([Term('read', number, holds, len(file) + len(buffer), probes)],
                 told(call='read', file=file, buffer=buffer, expected=(number, count, after)))
 
@@ -853,8 +853,8 @@ def write_case(tokens, buffer):
     number, count, after = ref.write(tokens, buffer)
     call = 'write %s %s' % (term(tokens), term(buffer))
     holds = 'counts (%s) %d %d %s' % (call, number, count, term(after))
-    probes = [('number', '(%s) .number' % call, 4), ('count', '(%s) .count' % call, 14),
-              ('buffer as expected', 'same ((%s) .buffer) %s' % (call, term(after)), None)]
+    probes = [('number', '(%s).number' % call, 4), ('count', '(%s).count' % call, 14),
+              ('buffer as expected', 'same ((%s).buffer) %s' % (call, term(after)), None)]
     return Case([Term('write', number, holds, len(tokens) + len(buffer), probes)],
                 told(call='write', tokens=tokens, buffer=buffer, expected=(number, count, after)))
 
@@ -867,13 +867,13 @@ def text_case(text, file_room, names_room):
         number, count, after = by_second(text, buffer)
         expected.append((number, count, after))
         call = '%s %s %s' % (name, term(text), term(buffer))
-        probes = [('number', '(%s) .number' % call, 5), ('count', '(%s) .count' % call, 15),
-                  ('buffer as expected', 'same ((%s) .buffer) %s' % (call, term(after)), None)]
+        probes = [('number', '(%s).number' % call, 5), ('count', '(%s).count' % call, 15),
+                  ('buffer as expected', 'same ((%s).buffer) %s' % (call, term(after)), None)]
         terms.append(Term(name, number, 'counts (%s) %d %d %s' % (call, number, count, term(after)), TEXTS * len(text), probes))
     number, offset = dtd.import_spot(text)
     expected.append((number, offset))
     call = 'spot %s' % term(text)
-    probes = [('number', '(%s) .number' % call, 5), ('offset', '(%s) .offset' % call, 16)]
+    probes = [('number', '(%s).number' % call, 5), ('offset', '(%s).offset' % call, 16)]
     terms.append(Term('spot', number, 'spotted (%s) %d %d' % (call, number, offset), TEXTS * len(text), probes))
     return Case(terms, told(call='import, names, spot', text=text, rooms=(file_room, names_room), expected=expected))
 
@@ -887,7 +887,7 @@ def compare_case(old, new, element, room):
     if not takes_all:
         label = number if number else 'no'
         terms.append(Term('compare', label, 'told (%s) %d 0 %d %s' % (call, number, length, term(after)), 1000,
-                          [('number', '(%s) .number' % call, 5), ('length', '(%s) .len' % call, 13)]))
+                          [('number', '(%s).number' % call, 5), ('length', '(%s).len' % call, 13)]))
     if number == 0 and (takes_all or length < 4):
         found = 'none' if takes_all else '(some %s)' % term(after[:length])
         few = 'shortest_of 4 %d (lost (of_table %s) (of_table %s) %d)' % (old[0], term(old), term(new), element)
@@ -900,8 +900,8 @@ def translate_case(file, table):
     number, after = ref.translate(file, table)
     call = 'translate %s %s' % (term(file), term(table))
     holds = 'tables (%s) %d %s' % (call, number, term(after))
-    probes = [('number', '(%s) .0' % call, 4),
-              ('table as expected', 'same ((%s) .1) %s' % (call, term(after)), None)]
+    probes = [('number', '(%s).0' % call, 4),
+              ('table as expected', 'same ((%s).1) %s' % (call, term(after)), None)]
     weight = 8 * len(file) if number in (0, 3) else len(file)
     terms = [Term('translate', number, holds, weight, probes)]
     if len(table) == TABLE:
@@ -927,8 +927,8 @@ def check_case(context, buffer, used, counts=None):
 
     def add(name, call):
         terms.append(Term(name, number, 'answers (%s) %d %d' % (call, number, place), len(buffer),
-                          [('number', '(%s) .0' % call, 4),
-                           ('place', '(%s) .1' % call, 14)]))
+                          [('number', '(%s).0' % call, 4),
+                           ('place', '(%s).1' % call, 14)]))
 
     add('check, own table' if own and context.good else 'check', 'check table %s %d' % (term(buffer), used))
     call = 'checked_counts table %s %d %s' % (term(buffer), used, integers(counts))
@@ -964,14 +964,14 @@ def edit_case(context, buffer, used, operation, place, piece, second=None, count
     wanted = '%d %d %d %s %d %s %s %s' % (number, where, length, signed(change), children, term(after), term(back), integers(counted))
 
     def add(name, call):
-        probes = [('number', '(%s) .number' % call, 4),
-                  ('place', '(%s) .place' % call, 14),
-                  ('used', '(%s) .used' % call, 14),
-                  ('change as expected', 'same_change ((%s) .change) %s' % (call, signed(change)), None),
-                  ('children', '(%s) .children' % call, 14),
-                  ('buffer as expected', 'same ((%s) .buffer) %s' % (call, term(after)), None),
-                  ('second buffer as expected', 'same ((%s) .back) %s' % (call, term(back)), None),
-                  ('counts as expected', 'same_counts ((%s) .counts) %s' % (call, integers(counted)), None)]
+        probes = [('number', '(%s).number' % call, 4),
+                  ('place', '(%s).place' % call, 14),
+                  ('used', '(%s).used' % call, 14),
+                  ('change as expected', 'same_change ((%s).change) %s' % (call, signed(change)), None),
+                  ('children', '(%s).children' % call, 14),
+                  ('buffer as expected', 'same ((%s).buffer) %s' % (call, term(after)), None),
+                  ('second buffer as expected', 'same ((%s).back) %s' % (call, term(back)), None),
+                  ('counts as expected', 'same_counts ((%s).counts) %s' % (call, integers(counted)), None)]
         terms.append(Term(name, number, 'results (%s) %s' % (call, wanted), len(buffer) + len(piece) + len(second), probes))
 
     parts = '%s %d %s %s %s' % (term(buffer), used, request(operation, place, piece), term(second), integers(counts))
@@ -1044,9 +1044,9 @@ def list_case(context, buffer, used, numbers, counts=None):
     call = 'edit_list table %s %d %s %s' % (term(buffer), used, term(numbers), integers(counts))
     holds = 'lists (%s) %d %d %d %d %s %d %s %s' % (call, done, number, place, length, signed(change), children, term(after),
                                                     integers(counted))
-    last = '(%s) .last ' % call
+    last = '(%s).last' % call
     probes = [('number', last + '.number', 4), ('place', last + '.place', 14), ('used', last + '.used', 14),
-              ('edits done', '(%s) .done' % call, 9), ('children', last + '.children', 14),
+              ('edits done', '(%s).done' % call, 9), ('children', last + '.children', 14),
               ('change as expected', 'same_change (%s.change) %s' % (last, signed(change)), None),
               ('buffer as expected', 'same (%s.buffer) %s' % (last, term(after)), None),
               ('counts as expected', 'same_counts (%s.counts) %s' % (last, integers(counted)), None)]
@@ -1082,11 +1082,11 @@ def group_case(context, buffer, used, numbers, second):
              '%s | %s | %s' % (plain(answer[:5]), plain(after), plain(worked)))
     call = 'group table %s %d %s %s' % (term(buffer), used, term(numbers), term(second))
     holds = 'groups (%s) %d %d %d %s %d %s %s' % (call, number, place, length, signed(change), which, term(after), term(worked))
-    probes = [('number', '(%s) .number' % call, 4), ('place', '(%s) .place' % call, 14), ('used', '(%s) .used' % call, 14),
-              ('which edit', '(%s) .which' % call, 9),
-              ('change as expected', 'same_change ((%s) .change) %s' % (call, signed(change)), None),
-              ('buffer as expected', 'same ((%s) .buffer) %s' % (call, term(after)), None),
-              ('second buffer as expected', 'same ((%s) .second) %s' % (call, term(worked)), None)]
+    probes = [('number', '(%s).number' % call, 4), ('place', '(%s).place' % call, 14), ('used', '(%s).used' % call, 14),
+              ('which edit', '(%s).which' % call, 9),
+              ('change as expected', 'same_change ((%s).change) %s' % (call, signed(change)), None),
+              ('buffer as expected', 'same ((%s).buffer) %s' % (call, term(after)), None),
+              ('second buffer as expected', 'same ((%s).second) %s' % (call, term(worked)), None)]
     terms = [Term('group', number, holds, len(buffer) + len(second) + len(numbers), probes)]
     return Case(terms, told(call='group', buffer=buffer, used=used, numbers=numbers, second=second, expected=answer), rows, lines)
 
@@ -1095,7 +1095,7 @@ def elements_case(context, counts, name):
     number, count = ref.elements(context.table, counts, name)
     lines = 'elements %d | %s' % (name, plain(counts)), '%d %d' % (number, count)
     call = 'elements_of table %s %d' % (integers(counts), name)
-    probes = [('number', '(%s) .0' % call, 4), ('count', '(%s) .1' % call, 14)]
+    probes = [('number', '(%s).0' % call, 4), ('count', '(%s).1' % call, 14)]
     terms = [Term('elements', number, 'answers (%s) %d %d' % (call, number, count), 100, probes)]
     return Case(terms, told(call='elements', counts=counts, name=name, expected=(number, count)), lines=lines)
 

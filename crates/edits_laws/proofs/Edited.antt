@@ -2,7 +2,7 @@
 -- that they say. Assumes nothing.
 use Rattle.std.specs.Prelude.{◌≡◌, true, ◌||◌, leb, ltb, length, take}
 use Rattle.std.proofs.Math.Path.{refl, sym}
-use Rattle.std.proofs.Common.{ap, ap₂, ◌∙◌, arith, add-zero, zero-add, add-one, leb-true, drop-drop}
+use Rattle.std.proofs.Common.{ap, ◌∙◌, arith, add-zero, zero-add, add-one, leb-true, drop-drop}
 use Rattle.std.proofs.Math.Bool.{not, and-eq-true_iff}
 use mathlib.Core.List.{List, [], ◌∷◌, ◌++◌}
 use Prim.Native.Nat.{ℕ, zero, suc, ◌+◌, ◌≤◌}
@@ -14,18 +14,18 @@ use Rattle.paper.specs.Tokens.{toks, is_start, item_size, kids, slot}
 use Rattle.paper.specs.Shape.{is_element}
 use Rattle.paper.specs.Trees.{Given, Forest, nil, txt, elem, flat_a, flat, IsTree}
 use Rattle.paper.specs.Edits.{Request, is_text, good_item, attr_with, some_values, good_piece, opens, opens_or_ends, at_head, attr_number, attr_at, attr_cut, good_place, splice_at, splice_cut, coming, splice, edited, looked_at}
-use Rattle.paper.specs.TreeEdits.{Hole, fill, place_of, One, text, element, set_given, drop_given, width, widths, around, looked, TreeEdit, insert, remove, replace, set, drop as drop-attribute}
+use Rattle.paper.specs.TreeEdits.{Hole, fill, place_of, One, text, element, set_given, drop_given, width, looked, TreeEdit, insert, remove, replace, set, drop as drop-attribute}
 use Rattle.basic_laws.specs.Bools.{clash}
 use Rattle.shape_laws.specs.Tree.{shape_tree}
 use Rattle.shape_laws.specs.EditJudged.{Asked, edited_toks}
 use Rattle.shape_laws.specs.Looked.{over, own}
 use Rattle.shape_laws.specs.Widths.{content_width, own_given}
-use Rattle.shape_laws.proofs.Widths.{own_flat}
 use Rattle.shape_laws.proofs.EditLooked.{looked_is}
 use Rattle.edits_laws.specs.Pieces.{Item, good_item_lem, set_piece, drop_piece}
 use Rattle.edits_laws.specs.Places.{after, Stands, find}
 use Rattle.edits_laws.proofs.Places.{after_shut}
 use Rattle.edits_laws.proofs.Splices.{splice_cons, splice_row, drop_row, one_before, one_cut, held_in, attr_splice, set_splice, drop_splice}
+use Rattle.edits_laws.proofs.ItemLooked.{item_looked}
 use Rattle.edits_laws.proofs.Looked.{row_around, start_children, slot_even}
 
 -- ---- the place
@@ -155,18 +155,6 @@ item_rest d i m =
     ∙ ap (λ n. drop n (flat f y)) (sym (zero-add (item_size (flat f y))))
     ∙ one_cut m.one m.next [] y
 
--- the item p comes at a place of the tree of d, before the row f
-item_looked_lem : (h : Hole) (f g : Forest) (d p : List Tok) (i : ℕ) → d ≡ flat (fill h g) [] → i ≡ place_of h → (m : Item p) (x : List Tok) → x ≡ flat f (after h [])
-    → over (take i d) (p ++ x) + own p x ≡ around h (m.make f) 0 + widths (m.make nil)
-item_looked_lem h f g d p i w a m x r =
-    let row : p ++ x ≡ flat (m.make f) (after h []) = ap₂ ◌++◌ m.tokens r ∙ sym (one_before m.one f (after h [])) in
-    let piece : own p x ≡ own (flat (m.make nil) []) x = ap (λ z. own z x) m.tokens in
-    omega (arith, row_around h g d i w a (m.make f) (p ++ x) row, piece, own_flat (m.make nil) [] x)
-
-item_looked : (h : Hole) (f g : Forest) (d p : List Tok) (i : ℕ) → d ≡ flat (fill h g) [] → i ≡ place_of h → (m : Item p) (x : List Tok)
-    → x ≡ flat f (after h []) → over (take i d) (p ++ x) + own p x ≡ around h (m.make f) 0 + widths (m.make nil)
-item_looked h f g d p i w a m x r = item_looked_lem h f g d p i w a m x r
-
 -- the attribute a goes, and p comes
 attr_looked : (a : ℕ) (d p : List Tok) (i : ℕ) (m : ElementAt d i) (gs : List Given) → attr_splice a p (flat_a m.attributes (inner m)) ≡ flat_a gs (inner m)
     → over (take (attr_at a i d) d) (p ++ drop (attr_at a i d + attr_cut a i d) d) ≡ width m.content
@@ -231,7 +219,7 @@ module _ (q : Request) (d : List Tok) (t : IsTree d) where
         w,
         insert o m.one m.tokens h f a,
         insert_splice h f d p i w a m,
-        item_looked_lem h f f d p i w a m (drop (i + 0) d) behind,
+        item_looked h f f d p i w a m (drop (i + 0) d) behind,
       )
   made (suc (suc zero)) o b g s =
       let x = item_at d t i ((and-eq-true_iff (at_head opens (drop i d)) (ltb 0 i)).0 s).0 in
@@ -252,7 +240,7 @@ module _ (q : Request) (d : List Tok) (t : IsTree d) where
         x.tokens,
         replace o m.one m.tokens x.one x.hole x.next x.at,
         item_splice d p i x (m.make x.next) (ap (λ z. z ++ flat x.next y) m.tokens ∙ sym (one_before m.one x.next y)),
-        item_looked_lem x.hole x.next (x.make x.next) d p i x.tokens x.at m (rest 3) (item_rest d i x),
+        item_looked x.hole x.next (x.make x.next) d p i x.tokens x.at m (rest 3) (item_rest d i x),
       )
   made (suc (suc (suc (suc zero)))) o b g s =
       let (v, e) = set_piece p ((and-eq-true_iff (leb (length p) most_tokens) (attr_with some_values p)).0 g).1 in

@@ -5,5 +5,7 @@ pub mod Places
 pub mod Splices
 -- The children that an edit looks at
 pub mod Looked
+-- .. where an item comes
+pub mod ItemLooked
 -- An edit makes the tokens of the tree that the edit rules make
 pub mod Edited

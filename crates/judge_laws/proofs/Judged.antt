@@ -19,7 +19,8 @@ use Rattle.basic_laws.specs.Tests.{true_iff}
 use Rattle.judge_laws.specs.Connectives.{and3_iff, eqb_iff, else_iff, before_iff, pass_iff, fault_iff, other, Each, each_nil, each_cons}
 use Rattle.judge_laws.specs.Attributes.{attributes_iff}
 use Rattle.judge_laws.specs.Contents.{content_iff}
-use Rattle.judge_laws.specs.Keys.{ids_iff, references_iff}
+use Rattle.judge_laws.specs.Keys.{ids_iff}
+use Rattle.judge_laws.proofs.Keys.{references_iff}
 
 -- ---- the elements
 

@@ -2,7 +2,7 @@
 -- to it, else at the end token, and then valid content does begin with the children. Assumes nothing.
 use Rattle.std.specs.Prelude.{◌≡◌, refl, ◌↔◌, false, ◌&&◌, T, take}
 use Rattle.std.proofs.Common.{sym, ap, ◌∙◌, inl, inr}
-use mathlib.Core.List.{List, [], ◌∷◌, ◌++◌, map, append_assoc, append-nil, map-append, cons≢nil, head-eq_of_cons-eq, tail-eq_of_cons-eq}
+use mathlib.Core.List.{List, [], ◌∷◌, ◌++◌, map, append-nil, map-append, cons≢nil, head-eq_of_cons-eq, tail-eq_of_cons-eq}
 use Prim.Native.Nat.{ℕ, zero, suc}
 use Rattle.paper.specs.declared.Tok.{Tok}
 use Rattle.paper.specs.declared.Tok.TheVariants.{Start, Text}
@@ -13,13 +13,12 @@ use Rattle.paper.specs.Tokens.{kids}
 use Rattle.paper.specs.Schema.{Content, empty, text, model, Schema}
 use Rattle.paper.specs.Table.{kind_number}
 use Rattle.paper.specs.Rules.{element_at, begun_by, of_schema}
-use Rattle.paper.specs.Judgement.{no_text, named, text_or_none, content, content_begun, stop_after}
-use Rattle.paper.specs.Validity.{ContentValid, StopsAt, Begun}
+use Rattle.paper.specs.Judgement.{no_text, named, text_or_none, content, content_begun}
+use Rattle.paper.specs.Validity.{Begun}
 use Rattle.basic_laws.specs.Tests.{and_iff}
 use Rattle.content_laws.specs.Useful.{some_word}
 use Rattle.content_laws.proofs.Begins.{begins_iff}
 use Rattle.judge_laws.specs.Contents.{item, items, null_iff, text_iff, to_starts, of_starts}
-use Rattle.judge_laws.specs.Stops.{stops_iff}
 
 -- ---- one law for each kind
 
@@ -88,7 +87,7 @@ items_take (suc i) [] t = tt
 items_take (suc i) (x ∷ k) t = let (p, q) = (and_iff (item x) (all item k)).0 t in (and_iff (item x) (all item (take i k))).1 (p, items_take i k q)
 
 -- something is valid content
-some_begun : (c : Content) → Begun c []
+pub some_begun : (c : Content) → Begun c []
 some_begun empty = ([], refl)
 some_begun text = ([], inl refl)
 some_begun (model e) = let (w, m) = some_word e in (map Start w, (w, refl, m))
@@ -100,17 +99,6 @@ module _ (s : Schema) (n : ℕ) (d : List Tok) where
   abbrev k : List Tok
   k = kids zero d
 
-  begun_iff_lem : (i : ℕ) → T (content_begun (of_schema s) n (take i k)) ↔ Begun c (take i k)
+  pub begun_iff : (i : ℕ) → T (content_begun (of_schema s) n (take i k)) ↔ Begun c (take i k)
   unfolding content_begun
-  begun_iff_lem i = by_kind c (take i k) (items_take i k (items zero d))
-
-  begun_iff : (i : ℕ) → T (content_begun (of_schema s) n (take i k)) ↔ Begun c (take i k)
-  begun_iff i = begun_iff_lem i
-
-  -- The children of an element stop at i exactly if they are not valid content and i is the number that the definition gives.
-  pub stops_means : (i : ℕ)
-      → StopsAt (Begun (element_at s n).content) (ContentValid (element_at s n).content) (kids zero d) i
-      ↔ ((¬ ContentValid (element_at s n).content (kids zero d)) × (i ≡ stop_after (content_begun (of_schema s) n) (kids zero d)))
-  stops_means = stops_iff (Begun c) (ContentValid c)
-      (λ u v h. (v ++ h.0, rw append_assoc at h.1)) (λ l h. ([], rw append-nil h))
-      (content_begun (of_schema s) n) k begun_iff_lem (some_begun c)
+  begun_iff i = by_kind c (take i k) (items_take i k (items zero d))

@@ -70,7 +70,7 @@ repeated_from seen (p ∷ l) r = go (elem p.1 seen) refl (repeated_from (p.1 ∷
 repeated_iff : (l : List (ℕ × ℕ)) → Rising l → ((repeated [] l).0 ≡ 0) ↔ Once l
 repeated_iff l r = let (to, of) = repeated_from [] l r in (λ e. (to e).1, λ f. of (λ i x m t. t, f))
 
-elem_iff : (x : ℕ) (l : List (ℕ × ℕ)) → T (elem x (map value_in l)) ↔ ((j : ℕ) × Holds l j x)
+pub elem_iff : (x : ℕ) (l : List (ℕ × ℕ)) → T (elem x (map value_in l)) ↔ ((j : ℕ) × Holds l j x)
 elem_iff x [] = (λ t. absurd t, λ h. absurd (Memᴰ.not-nil h.1))
 elem_iff x (p ∷ l) =
     let (to, of) = elem_iff x l in
@@ -85,7 +85,7 @@ elem_iff x (p ∷ l) =
       ],
     )
 
-dangling_iff : (ids : List ℕ) (l : List (ℕ × ℕ)) → ((dangling ids l).0 ≡ 0) ↔ ((i x : ℕ) → Holds l i x → T (elem x ids))
+pub dangling_iff : (ids : List ℕ) (l : List (ℕ × ℕ)) → ((dangling ids l).0 ≡ 0) ↔ ((i x : ℕ) → Holds l i x → T (elem x ids))
 dangling_iff ids [] = (λ e i x m. absurd (Memᴰ.not-nil m), λ f. refl)
 dangling_iff ids (p ∷ l) =
     let (to, of) = dangling_iff ids l in
@@ -146,31 +146,19 @@ stands_as f z = record {
 }
 
 module _ (s : Schema) (d : List Tok) (b : is_body (phases Body d) ≡ true) where
-  holds_id : (i x : ℕ) → Holds (ids_of (of_schema s) d) i x ↔ StandsAt (IsId s) d i x
+  pub holds_id : (i x : ℕ) → Holds (ids_of (of_schema s) d) i x ↔ StandsAt (IsId s) d i x
   holds_id i x =
       let (to, of) = stands_iff (is_id (of_schema s)) d b i x in
       (λ m. stands_as (λ n a. (id_iff s n a).0) (to m), λ z. of (stands_as (λ n a. (id_iff s n a).1) z))
 
-  holds_reference_lem : (i x : ℕ) → Holds (refs_of (of_schema s) d) i x ↔ StandsAt (IsReference s) d i x
-  holds_reference_lem i x =
+  pub holds_reference : (i x : ℕ) → Holds (refs_of (of_schema s) d) i x ↔ StandsAt (IsReference s) d i x
+  holds_reference i x =
       let (to, of) = stands_iff (is_ref (of_schema s)) d b i x in
       (λ m. stands_as (λ n a. (reference_iff s n a).0) (to m), λ z. of (stands_as (λ n a. (reference_iff s n a).1) z))
-
-  holds_reference : (i x : ℕ) → Holds (refs_of (of_schema s) d) i x ↔ StandsAt (IsReference s) d i x
-  holds_reference i x = holds_reference_lem i x
 
   pub ids_iff : ((repeated [] (ids_of (of_schema s) d)).0 ≡ 0) ↔ ((i j x : ℕ) → StandsAt (IsId s) d i x → StandsAt (IsId s) d j x → i ≡ j)
   ids_iff =
       let (to, of) = repeated_iff (ids_of (of_schema s) d) (rising_from_lem (is_id (of_schema s)) d 0 0 0) in (
         λ e i j x y z. to e i j x ((holds_id i x).1 y) ((holds_id j x).1 z),
         λ f. of (λ i j x m n. f i j x ((holds_id i x).0 m) ((holds_id j x).0 n)),
-      )
-
-  pub references_iff : ((dangling (map value_in (ids_of (of_schema s) d)) (refs_of (of_schema s) d)).0 ≡ 0)
-      ↔ ((i x : ℕ) → StandsAt (IsReference s) d i x → (j : ℕ) × StandsAt (IsId s) d j x)
-  references_iff =
-      let ids = ids_of (of_schema s) d in
-      let (to, of) = dangling_iff (map value_in ids) (refs_of (of_schema s) d) in (
-        λ e i x z. let (j, m) = (elem_iff x ids).0 (to e i x ((holds_reference_lem i x).1 z)) in (j, (holds_id j x).0 m),
-        λ f. of (λ i x m. let (j, z) = f i x ((holds_reference_lem i x).0 m) in (elem_iff x ids).1 (j, (holds_id j x).1 z)),
       )

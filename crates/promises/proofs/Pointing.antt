@@ -16,7 +16,7 @@ use Rattle.paper.specs.Back.{needs}
 use Rattle.paper.specs.Counts.{moved, count_good}
 use Rattle.paper.specs.Edits.{Request, Outcome, refused, done, outcome, edited, touched_by, made, good_piece, good_place, fits, form_fault, or_next, size_fault, limit_fault, answered, editing, edit_by}
 use Rattle.judge_laws.specs.Contents.{content_iff}
-use Rattle.judge_laws.specs.Begun.{stops_means}
+use Rattle.judge_laws.proofs.Begun.{stops_means}
 use Rattle.judge_laws.specs.ByRun.{table_stops}
 use Rattle.answer_laws.specs.NeverSeven.{keys_never}
 use Rattle.promises.specs.Statements.{PointsByRun}

@@ -9,7 +9,7 @@ use Rattle.paper.specs.Judgement.{Answer, checking}
 use Rattle.paper.specs.Validity.{ValidDocument}
 use Rattle.content_laws.proofs.Theorems as content
 use Rattle.shape_laws.specs.Tree.{shape_is_tree}
-use Rattle.shape_laws.specs.TreeDepth as tree-depth
+use Rattle.shape_laws.proofs.TreeDepth as tree-depth
 use Rattle.schema_laws.specs.Written.{bytes_of_lem}
 use Rattle.judge_laws.proofs.Judged.{checked_valid}
 use Rattle.judge_laws.specs.Begun.{names_begun}

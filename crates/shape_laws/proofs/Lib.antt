@@ -2,3 +2,5 @@
 pub mod Looked
 pub mod Widths
 pub mod EditLooked
+-- A document with shape is the tokens of one element
+pub mod TreeDepth

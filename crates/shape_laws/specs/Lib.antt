@@ -1,5 +1,5 @@
 -- Laws of token lists. Ends has turns of loops; Bridge goes from numbers to tokens; Phases to Five say what an edit leaves as it was; Tree
--- says that shape is a tree; EditJudged says what follows for judging an edit; Looked and Widths, with
+-- says that shape is a tree (proofs/TreeDepth.antt); EditJudged says what follows for judging an edit; Looked and Widths, with
 -- proofs/Looked.antt to proofs/EditLooked.antt, count the children that it looks at.
 pub mod Ends
 pub mod Bridge
