@@ -1,7 +1,7 @@
 // The host library's archive: the calls of `shrikemuff`, exported under their names in `include/shrikemuff.h`.
 //
 // Each call hands its arguments to the function of `shrikemuff` that has its name, and promises what that one promises. It asks nothing of
-// its arguments.
+// its arguments. `proofs/Contracts.antt` holds the contracts to the paper's.
 // Assumes nothing.
 #![tactic(auto)]
 

@@ -1,0 +1,2 @@
+-- Contracts says what the contracts allow.
+pub mod Contracts
