@@ -1,6 +1,6 @@
 """Runs the edit program in a folder of its own for the sample and for each way to stop, and compares what it prints.
 
-`rt run` in crates/run_edits makes the program. Fails at the first difference.
+`tools/program --make run_edits` makes the program. Fails at the first difference.
 """
 import argparse
 import os
