@@ -24,7 +24,7 @@ use Rattle.shape_laws.specs.EditJudged.{Asked, form_iff, allowed_by, coming_toks
 use Rattle.form.specs.declared.Form.{Form}
 use Rattle.form.specs.Form.{Formed}
 use Rattle.form.specs.Size.{size_is}
-use Rattle.edits.specs.Outcomes.{ready_few, ready_long, ready_within, ready_comes}
+use Rattle.edits.proofs.Outcomes.{ready_few, ready_long, ready_within, ready_comes}
 use Rattle.kept_laws.specs.Read.{Names, Reads, read_by}
 use Rattle.kept_keys.specs.Follow.{cut_of, Change}
 

@@ -29,7 +29,8 @@ use Rattle.form.specs.Form.{Formed}
 use Rattle.edits.specs.declared.Answer.{Answer}
 use Rattle.touched.specs.declared.Finding.{Finding}
 use Rattle.touched.specs.Judged.{Found}
-use Rattle.edits.specs.Outcomes.{outcome_of, refusal, done_with, edit_form, edit_counts, edit_put, edit_fault, edit_done}
+use Rattle.edits.specs.Outcomes.{outcome_of, refusal, done_with}
+use Rattle.edits.proofs.Outcomes.{edit_form, edit_counts, edit_put, edit_fault, edit_done}
 
 second_long : length second ≡ most_back
 second_long = length-replicate {A = ℕ} most_back 0

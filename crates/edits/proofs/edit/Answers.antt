@@ -1,7 +1,7 @@
 -- `edits::edit` meets its contract. Assumes nothing.
 use mathlib.Core.Bool.{not}
 use mathlib.Core.Path.{ap}
-use Rattle.edits.specs.Outcomes.{edit_table, edit_shape, edit_whole, is_shaped}
+use Rattle.edits.proofs.Outcomes.{edit_table, edit_shape, edit_whole, is_shaped}
 use Rattle.judge.specs.Check.{is_proper}
 use Rattle.edits.proofs.edit.Goals as goal
 

@@ -3,7 +3,7 @@ use mathlib.Core.Bool.{not}
 use mathlib.Core.Path.{sym, ap}
 use native.Mathlib.Omega.{arith}
 use lib.Seq.{length-take-le}
-use Rattle.edits.specs.Outcomes.{edit_form, edit_short, edit_counts, edit_put, edit_fault, edit_done, ready_few, ready_room, ready_long, ready_within, ready_inner, ready_at, ready_front, ready_comes, ready_under, ready_cut, ready_needs, ready_most}
+use Rattle.edits.proofs.Outcomes.{edit_form, edit_short, edit_counts, edit_put, edit_fault, edit_done, ready_few, ready_room, ready_long, ready_within, ready_inner, ready_at, ready_front, ready_comes, ready_under, ready_cut, ready_needs, ready_most}
 use Rattle.form.specs.Form.{shaped_few, shaped_long}
 use Rattle.edits.proofs.edit_shaped.Goals as goal
 

@@ -2,7 +2,7 @@
 use mathlib.Core.Bool.{not}
 use mathlib.Core.Path.{ap}
 use Rattle.lists.specs.Outcomes.{own_fault, first_table, first_shape, has_edits}
-use Rattle.edits.specs.Outcomes.{is_shaped}
+use Rattle.edits.proofs.Outcomes.{is_shaped}
 use Rattle.judge.specs.Check.{is_proper}
 use Rattle.lists.proofs.list.Goals as goal
 

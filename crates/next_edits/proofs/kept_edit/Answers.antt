@@ -3,7 +3,7 @@ use mathlib.Core.Bool.{not}
 use mathlib.Core.Path.{ap}
 use native.Mathlib.Omega.{arith}
 use Rattle.form.specs.Form.{shaped_few, shaped_long}
-use Rattle.edits.specs.Outcomes.{ready_few, ready_room, ready_long, ready_within, ready_at, ready_front, ready_under, ready_inner}
+use Rattle.edits.proofs.Outcomes.{ready_few, ready_room, ready_long, ready_within, ready_at, ready_front, ready_under, ready_inner}
 use Rattle.kept_judged.specs.Edit.{edit_in_form}
 use Rattle.next_edits.specs.Single.{next_form, next_counts, next_put, next_fault, next_done}
 use Rattle.next_edits.specs.Kept.{goes_refused, goes_done}

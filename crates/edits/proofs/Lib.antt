@@ -1,0 +1,2 @@
+-- The laws of an edit's outcome
+pub mod Outcomes
