@@ -20,12 +20,10 @@ fn repeated(n: usize, names: &[u64]) -> u64
 {
     let mut seen: u64 = 0;
     let mut twice: u64 = 0;
-    let mut i: usize = 0;
-    while i < n {
+    for i in 0..n {
         let name = one(names[i] as u32);
-        twice = twice | (seen & name);
-        seen = seen | name;
-        i += 1;
+        twice |= seen & name;
+        seen |= name;
     }
     twice
 }
@@ -36,10 +34,8 @@ fn places_of(set: u64, n: usize, names: &[u64]) -> u64
     ensures { Places set n names.now result }
 {
     let mut found: u64 = 0;
-    let mut i: usize = 0;
-    while i < n {
-        found = found | when(has(set, names[i] as u32), one(i as u32));
-        i += 1;
+    for i in 0..n {
+        found |= when(has(set, names[i] as u32), one(i as u32));
     }
     found
 }
@@ -71,14 +67,12 @@ pub fn unambiguous(count: usize, first: u64, names: &[u64], follow: &[u64]) -> b
     if !one_each(known, names) {
         return false;
     }
-    let mut k: usize = 0;
-    while k < count {
+    for k in 0..count {
         let set = follow[k] & shared;
         if !once_after(known, set, names) {
             return false;
         }
         known = set;
-        k += 1;
     }
     true
 }

@@ -1,5 +1,5 @@
 -- The attributes of an element, one after another, and their five sets. Assumes nothing.
-use Rattle.std.specs.Prelude.{◌≡◌, refl, Bool, true, false, cond, ◌||◌, List, [], ◌∷◌, ◌++◌, ℕ, suc, ◌+◌, ◌-◌, ◌^◌, ◌≤◌, ◌<◌, eqb, length, drop, get_or}
+use Rattle.std.specs.Prelude.{◌≡◌, refl, Result, Bool, true, false, cond, ◌||◌, List, [], ◌∷◌, ◌++◌, ℕ, suc, ◌+◌, ◌-◌, ◌^◌, ◌≤◌, ◌<◌, eqb, length, drop, get_or}
 use Rattle.std.proofs.Common.{sym, ap, ◌∙◌, append_assoc, append-nil, arith, add-one, length-append, eqb-true, eq-eqb, ne_eqb}
 use Rattle.std.specs.Int.Bits.{bit_or, or_zero_l, or_zero_r}
 use Rattle.paper.specs.Basics.{most_attributes, most_fixed, cons_if}
@@ -7,27 +7,35 @@ use Rattle.paper.specs.Sets.{when}
 use Rattle.paper.specs.Schema.{Attribute, is_fixed, Parsed, stop, ok, Reader, pure, onward, number, kind_after, most_status, value_after, attributes_from}
 use Rattle.paper.specs.Table.{entries, entries_of, fixed_numbers, set_of, of_kind, is_required}
 use Rattle.sets.specs.Union.{or_assoc}
-use Rattle.reading.specs.Ended.{Ended, ended_stop, ended_went, prefixed, prefixed_none, prefixed_more}
+use Rattle.paper.specs.Codes.{number_of, kind_of, status_of}
+use Rattle.paper.specs.declared.Refusal.{Refusal}
+use Rattle.paper.specs.declared.Kind.{Kind}
+use Rattle.paper.specs.declared.Kind.TheVariants.{Cdata, Id, Idref, Idrefs}
+use Rattle.paper.specs.declared.Status.{Status}
+use Rattle.paper.specs.declared.Status.TheVariants.{Required, Implied, Fixed}
+use Rattle.paper.specs.contracts.Kind.{the_type as kind_type}
+use Rattle.paper.specs.contracts.Status.{the_type as status_type}
+use denote.Enum.Bare.{sameb}
+use Rattle.reading.specs.Ended.{Went, Ended, prefixed, prefixed_none, prefixed_more}
 use Rattle.attlist.specs.declared.Declared.{Declared}
 use Rattle.attlist.specs.declared.Attributes.{Attributes}
 use Rattle.entries.specs.Held.{Held, entry_of, held_entries, held_of}
 use Rattle.attlist.specs.Status.{status_from}
 use Rattle.attlist.specs.Attribute.{attribute, attribute_of, AttributeAt, attribute_low, attribute_room}
 
-abbrev pub no_sets : ℕ → ℕ → Attributes
-no_sets n next = record { number = n; next = next; low = 0; had = false; allowed = 0; required = 0; id = 0; idref = 0; idrefs = 0 }
+abbrev pub no_sets : ℕ → Attributes
+no_sets next = record { next = next; low = 0; had = false; allowed = 0; required = 0; id = 0; idref = 0; idrefs = 0 }
 
 abbrev pub with_attribute : Attributes → Declared → Attributes
 with_attribute s a = record {
-  number = 0;
   next = a.next;
   low = a.attribute + 1;
-  had = s.had || eqb a.kind 1;
+  had = s.had || eqb (kind_of a.kind) 1;
   allowed = bit_or s.allowed (2 ^ a.attribute);
-  required = bit_or s.required (when (eqb a.status 0) (2 ^ a.attribute));
-  id = bit_or s.id (when (eqb a.kind 1) (2 ^ a.attribute));
-  idref = bit_or s.idref (when (eqb a.kind 2) (2 ^ a.attribute));
-  idrefs = bit_or s.idrefs (when (eqb a.kind 3) (2 ^ a.attribute));
+  required = bit_or s.required (when (eqb (status_of a.status) 0) (2 ^ a.attribute));
+  id = bit_or s.id (when (eqb (kind_of a.kind) 1) (2 ^ a.attribute));
+  idref = bit_or s.idref (when (eqb (kind_of a.kind) 2) (2 ^ a.attribute));
+  idrefs = bit_or s.idrefs (when (eqb (kind_of a.kind) 3) (2 ^ a.attribute));
 }
 
 -- the five sets of the attributes
@@ -43,9 +51,9 @@ pub record EntriesOf (e : ℕ) (l : List Attribute) (before after : List ℕ) : 
   pub few : length (entries before ++ entries_of e l) ≤ most_fixed
   pub added : after ≡ fixed_numbers (entries before ++ entries_of e l)
 
-abbrev pub AttributesAt : ℕ → ℕ → List ℕ → ℕ → Attributes → (before after : List ℕ) → Type 0
-AttributesAt n e file at r before after =
-    Ended (attributes_from n 0 false (length (entries before)) (drop at file)) file r.number r.next (λ l. SetsOf l r × EntriesOf e l before after)
+abbrev pub AttributesAt : ℕ → ℕ → List ℕ → ℕ → (before after : List ℕ) → Result Attributes Refusal → Type 0
+AttributesAt n e file at before after =
+    Ended (attributes_from n 0 false (length (entries before)) (drop at file)) file (λ r. r.next) (λ r l. SetsOf l r × EntriesOf e l before after)
 
 -- ---- one set, with one more
 
@@ -55,7 +63,7 @@ set_last P (x ∷ l) y =
     ap (bit_or (when (P x) (2 ^ x.number))) (set_last P l y)
     ∙ sym (or_assoc (when (P x) (2 ^ x.number)) (set_of P l) (when (P y) (2 ^ y.number)))
 
-sets_none : {s : Attributes} (at : ℕ) → s ≡ no_sets 0 at → SetsOf [] s
+sets_none : {s : Attributes} (at : ℕ) → s ≡ no_sets at → SetsOf [] s
 sets_none at e = rw e (record { allowed = refl; required = refl; id = refl; idref = refl; idrefs = refl })
 
 sets_more : {l : List Attribute} {s r : Attributes} (a : Declared) → SetsOf l s → r ≡ with_attribute s a → SetsOf (l ++ attribute_of a ∷ []) r
@@ -70,29 +78,47 @@ sets_more {l} {s} {r} a t e = rw e (record {
     one : (P : Attribute → Bool) {w : ℕ} → w ≡ set_of P l → bit_or w (when (P (attribute_of a)) (2 ^ a.attribute)) ≡ set_of P (l ++ attribute_of a ∷ [])
     one P q = rw q (sym (set_last P l (attribute_of a)))
 
+-- an attribute's kind and status are tested as enums
+is_kind : (k x : Kind) → sameb kind_type k x ≡ eqb (kind_of k) (kind_of x)
+is_kind k x = by k x
+  where
+    by : (k x : Kind) → sameb kind_type k x ≡ eqb (kind_of k) (kind_of x)
+    by Cdata Cdata = refl
+    by Cdata Id = refl
+    by Cdata Idref = refl
+    by Cdata Idrefs = refl
+    by Id Cdata = refl
+    by Id Id = refl
+    by Id Idref = refl
+    by Id Idrefs = refl
+    by Idref Cdata = refl
+    by Idref Id = refl
+    by Idref Idref = refl
+    by Idref Idrefs = refl
+    by Idrefs Cdata = refl
+    by Idrefs Id = refl
+    by Idrefs Idref = refl
+    by Idrefs Idrefs = refl
+
+needed : (t : Status) → sameb status_type t Required ≡ eqb (status_of t) 0
+needed Required = refl
+needed Implied = refl
+needed Fixed = refl
+
 -- as the code makes them of the set of the attribute alone
-pub with_made : (s : Attributes) (a : Declared) {o w x y z : ℕ} → o ≡ 2 ^ a.attribute → w ≡ when (eqb a.status 0) o → x ≡ when (eqb a.kind 1) o
-    → y ≡ when (eqb a.kind 2) o → z ≡ when (eqb a.kind 3) o
-    → ◌≡◌ {A = Attributes} (record { number = 0; next = a.next; low = a.attribute + 1; had = s.had || eqb a.kind 1; allowed = bit_or s.allowed o; required = bit_or s.required w; id = bit_or s.id x; idref = bit_or s.idref y; idrefs = bit_or s.idrefs z }) (with_attribute s a)
-with_made s a p q r t u = rw (q, r, t, u, p)
+pub with_made : (s : Attributes) (a : Declared) {o w x y z : ℕ} {h i j k m : Bool} → o ≡ 2 ^ a.attribute → w ≡ when h o → x ≡ when j o → y ≡ when k o
+    → z ≡ when m o → h ≡ sameb status_type a.status Required → i ≡ sameb kind_type a.kind Id → j ≡ sameb kind_type a.kind Id
+    → k ≡ sameb kind_type a.kind Idref → m ≡ sameb kind_type a.kind Idrefs
+    → ◌≡◌ {A = Attributes} (record { next = a.next; low = a.attribute + 1; had = s.had || i; allowed = bit_or s.allowed o; required = bit_or s.required w; id = bit_or s.id x; idref = bit_or s.idref y; idrefs = bit_or s.idrefs z }) (with_attribute s a)
+with_made s a o w x y z h i j k m =
+    rw (w, x, y, z, h, i, j, k, m, o, needed a.status, is_kind a.kind Id, is_kind a.kind Idref, is_kind a.kind Idrefs)
 
 -- ---- one more entry
 
 -- entries are held, with room for one more if the attribute is fixed
 pub record Room (f : List ℕ) (a : Declared) : Type 0 where
   pub held : Held f
-  pub room : a.status ≡ 2 → get_or f 0 0 < most_fixed
-
-module _ {f : List ℕ} (a : Declared) (h : Room f a) where
-  pub note_room : a.status ≡ 2 → get_or f 0 0 < most_fixed
-  note_room t = h.room t
-
-  pub not_noted : (e : ℕ) → (a.status ≡ 2 → ⊥) → f ≡ fixed_numbers (entries f ++ entries_of e (attribute_of a ∷ []))
-  not_noted e n = rw (ne_eqb a.status 2 n, append-nil (entries f)) h.held.same
-
-  pub noted : (e : ℕ) {g : List ℕ} → a.status ≡ 2 → g ≡ fixed_numbers (entries f ++ entry_of e a.attribute a.value ∷ [])
-      → g ≡ fixed_numbers (entries f ++ entries_of e (attribute_of a ∷ []))
-  noted e t q = rw (eq-eqb a.status 2 t) q
+  pub room : status_of a.status ≡ 2 → get_or f 0 0 < most_fixed
 
 entries_last : (e : ℕ) (l : List Attribute) (y : Attribute) → entries_of e (l ++ y ∷ []) ≡ entries_of e l ++ entries_of e (y ∷ [])
 entries_last e [] y = refl
@@ -142,7 +168,6 @@ module _ (m low : ℕ) (had : Bool) (met : ℕ) where
 pub record Listing (n e : ℕ) (file : List ℕ) (at : ℕ) (before fixed : List ℕ) (s : Attributes) (i : ℕ) : Type 0 where
   pub l : List Attribute
   pub few : i ≤ n
-  pub fine : s.number ≡ 0
   pub within : s.next ≤ length file
   pub same : attributes_from n 0 false (length (entries before)) (drop at file)
       ≡ prefixed l (attributes_from (n - i) s.low s.had (length (entries fixed)) (drop s.next file))
@@ -151,13 +176,12 @@ pub record Listing (n e : ℕ) (file : List ℕ) (at : ℕ) (before fixed : List
   pub entered : entries fixed ≡ entries before ++ entries_of e l
 
 module _ (n e : ℕ) (file : List ℕ) (at : ℕ) (before : List ℕ) where
-  pub list_none : {s : Attributes} → at ≤ length file → Held before → s ≡ no_sets 0 at → Listing n e file at before before s 0
+  pub list_none : {s : Attributes} → at ≤ length file → Held before → s ≡ no_sets at → Listing n e file at before before s 0
   list_none {s} h held q =
       let b : n - 0 ≡ n = omega arith in
       rw q (record {
         l = [];
         few = omega arith;
-        fine = refl;
         within = h;
         same = rw b (prefixed_none (attributes_from n 0 false (length (entries before)) (drop at file)));
         sets = sets_none at refl;
@@ -169,10 +193,10 @@ module _ (n e : ℕ) (file : List ℕ) (at : ℕ) (before : List ℕ) where
     pub list_kept : Held before → length fixed ≡ length before
     list_kept h = t.held.long ∙ sym h.long
 
-    pub list_end : n ≤ i → AttributesAt n e file at s before fixed
+    pub list_end : n ≤ i → Went (attributes_from n 0 false (length (entries before)) (drop at file)) file s.next (λ l. SetsOf l s × EntriesOf e l before fixed)
     list_end h =
         let z : n - i ≡ 0 = omega arith in
-        ended_went t.fine (record {
+        record {
           value = t.l;
           reads = t.same ∙ rw z (ap (λ l. ok l (drop s.next file)) (append-nil t.l));
           within = t.within;
@@ -183,24 +207,24 @@ module _ (n e : ℕ) (file : List ℕ) (at : ℕ) (before : List ℕ) where
               added = t.held.same ∙ ap fixed_numbers t.entered;
             },
           );
-        })
+        }
 
-    module _ (h : i < n) {met : ℕ} (m : met ≡ length (entries fixed)) {a : Declared} (w : AttributeAt s.low s.had met file s.next a) where
+    module _ (h : i < n) {met : ℕ} (m : met ≡ length (entries fixed)) where
       left : n - i ≡ suc (n - (i + 1))
       left = omega arith
 
-      pub list_stop : {r : Attributes} (after : List ℕ) → (a.number ≡ 0 → ⊥) → r ≡ no_sets a.number 0 → AttributesAt n e file at r before after
-      list_stop after z q =
-          rw q (ended_stop z (t.same ∙ rw (left, ← m, attributes_next (n - (i + 1)) s.low s.had met (drop s.next file), w.stopped z)))
+      pub list_stop : (x : Refusal) → attribute s.low s.had met (drop s.next file) ≡ stop (number_of x)
+          → attributes_from n 0 false (length (entries before)) (drop at file) ≡ stop (number_of x)
+      list_stop x w = t.same ∙ rw (left, ← m, attributes_next (n - (i + 1)) s.low s.had met (drop s.next file), w)
 
-      module _ (z : a.number ≡ 0) where
+      module _ (a : Declared) (v : Went (attribute s.low s.had met (drop s.next file)) file a.next (λ y. y ≡ attribute_of a)) where
         reads : attribute s.low s.had met (drop s.next file) ≡ ok (attribute_of a) (drop a.next file)
-        reads = let v = w.went z in v.reads ∙ ap (λ y. ok y (drop a.next file)) v.holds
+        reads = v.reads ∙ ap (λ y. ok y (drop a.next file)) v.holds
 
         pub list_low : a.attribute < most_attributes
         list_low = attribute_low s.low s.had met (drop s.next file) reads
 
-        room_for : a.status ≡ 2 → get_or fixed 0 0 < most_fixed
+        room_for : status_of a.status ≡ 2 → get_or fixed 0 0 < most_fixed
         room_for two = let r = attribute_room s.low s.had met (drop s.next file) reads two in omega (arith, t.held.count)
 
         pub list_room : Room fixed a
@@ -210,33 +234,32 @@ module _ (n e : ℕ) (file : List ℕ) (at : ℕ) (before : List ℕ) where
             → r ≡ with_attribute s a → Listing n e file at before after r (i + 1)
         list_more {r} {after} g q =
             let now = held_entries (entries fixed ++ entries_of e (attribute_of a ∷ [])) g in
-            let count : length (entries after) ≡ met + cond (eqb a.status 2) 1 0 = counted (ap length now ∙ length-append (entries fixed) (entries_of e (attribute_of a ∷ []))) in
+            let count : length (entries after) ≡ met + cond (eqb (status_of a.status) 2) 1 0 = counted (ap length now ∙ length-append (entries fixed) (entries_of e (attribute_of a ∷ []))) in
             rw q (record {
               l = t.l ++ attribute_of a ∷ [];
               few = omega arith;
-              fine = refl;
-              within = (w.went z).within;
+              within = v.within;
               same =
                   t.same
                   ∙ rw (left, ← m, attributes_next (n - (i + 1)) s.low s.had met (drop s.next file), reads, add-one a.attribute, count)
                   (prefixed_more t.l (attribute_of a)
-                  (attributes_from (n - (i + 1)) (suc a.attribute) (s.had || eqb a.kind 1) (met + cond (eqb a.status 2) 1 0) (drop a.next file)));
+                  (attributes_from (n - (i + 1)) (suc a.attribute) (s.had || eqb (kind_of a.kind) 1) (met + cond (eqb (status_of a.status) 2) 1 0) (drop a.next file)));
               sets = sets_more a t.sets refl;
-              held = held_of (entries fixed ++ entries_of e (attribute_of a ∷ [])) (fits (eqb a.status 2) refl) g;
+              held = held_of (entries fixed ++ entries_of e (attribute_of a ∷ [])) (fits (eqb (status_of a.status) 2) refl) g;
               entered = now ∙ ap (λ r. r ++ entries_of e (attribute_of a ∷ [])) t.entered
                   ∙ append_assoc (entries before) (entries_of e t.l) (entries_of e (attribute_of a ∷ []))
                   ∙ ap (λ r. entries before ++ r) (sym (entries_last e t.l (attribute_of a)));
             })
           where
-            counted : {c : ℕ} → c ≡ length (entries fixed) + length (entries_of e (attribute_of a ∷ [])) → c ≡ met + cond (eqb a.status 2) 1 0
-            counted q = q ∙ rw m (ap (λ k. length (entries fixed) + k) (one (eqb a.status 2)))
+            counted : {c : ℕ} → c ≡ length (entries fixed) + length (entries_of e (attribute_of a ∷ [])) → c ≡ met + cond (eqb (status_of a.status) 2) 1 0
+            counted q = q ∙ rw m (ap (λ k. length (entries fixed) + k) (one (eqb (status_of a.status) 2)))
               where
                 one : (b : Bool) → length (cons_if b (entry_of e a.attribute a.value) []) ≡ cond b 1 0
                 one true = refl
                 one false = refl
 
-            fits : (b : Bool) → eqb a.status 2 ≡ b → length (entries fixed ++ cons_if b (entry_of e a.attribute a.value) []) ≤ most_fixed
+            fits : (b : Bool) → eqb (status_of a.status) 2 ≡ b → length (entries fixed ++ cons_if b (entry_of e a.attribute a.value) []) ≤ most_fixed
             fits true p =
-                let r = room_for (eqb-true a.status 2 p) in
+                let r = room_for (eqb-true (status_of a.status) 2 p) in
                 omega (arith, length-append (entries fixed) (entry_of e a.attribute a.value ∷ []), t.held.count)
             fits false p = omega (arith, ap length (append-nil (entries fixed)), t.held.count, t.held.few)

@@ -5,15 +5,16 @@
 
 ghost use Rattle.std.specs.Prelude.{◌≡◌, [], ◌∷◌, ◌++◌, ◌≤◌, ◌<◌, length};
 ghost use Rattle.paper.specs.Basics.{most_attributes};
+ghost use Rattle.paper.specs.Codes.{kind_of};
 ghost use Rattle.paper.specs.Schema.{most_status};
 ghost use Rattle.paper.specs.Table.{entries, entries_of, fixed_numbers};
 ghost use Rattle.entries.specs.Held.{Held};
-ghost use Rattle.attlist.specs.Status.{no_status, StatusAt};
-ghost use Rattle.attlist.specs.Attribute.{no_attribute, attribute_of, AttributeAt};
+ghost use Rattle.attlist.specs.Status.{StatusAt};
+ghost use Rattle.attlist.specs.Attribute.{attribute_of, AttributeAt};
 ghost use Rattle.attlist.specs.Attributes.{Room, no_sets, with_attribute, AttributesAt};
 
 use entries::{add_entry, count_of};
-use paper::{CDATA, DONE, FIXED, ID, IDREF, IDREFS, IMPLIED, MOST_NUMBER, REQUIRED, SCHEMA};
+use paper::{Kind, MOST_NUMBER, Refusal, Status};
 use reading::number_in;
 use sets::{one, when};
 
@@ -24,129 +25,105 @@ const MOST_FIXED: u32 = paper::MOST_FIXED as u32;
 
 // ---- a status
 
-// The largest status of an attribute of a kind, where `met` fixed ones were met: "a seventeenth fixed attribute, one not CDATA [..] is 2".
-fn most_status(kind: u32, met: u32) -> u32
-    ensures { result ≡ most_status kind met }
+// The number of the largest status of an attribute of a kind, where `met` fixed ones were met: "a seventeenth fixed attribute, one not
+// CDATA [..] is 2".
+fn most_status(kind: Kind, met: u32) -> u32
+    ensures { result ≡ most_status (kind_of kind) met }
 {
-    if (kind == CDATA) & (met < MOST_FIXED) {
-        return FIXED;
+    if (kind == Kind::Cdata) & (met < MOST_FIXED) {
+        return Status::Fixed as u32;
     }
-    IMPLIED
+    Status::Implied as u32
 }
 
-// A status that was read: 0, what it is, its value and the place after both; or the refusal's number.
+// A status that was read, its value and the place after both. The value is 0 where it is not fixed.
 #[derive(Clone, Copy)]
 struct Stated {
-    number: u32,
     next: usize,
-    status: u32,
+    status: Status,
     value: u32,
 }
 
-// No status is taken.
-fn no_status(number: u32) -> Stated
-    ensures { result ≡ no_status number }
-{
-    Stated {
-        number,
-        next: 0,
-        status: 0,
-        value: 0,
-    }
-}
-
 // The status at a place of the file, and the value behind it: "status 2, fixed, [..] followed by its value number".
-fn status_at(file: &[u8], at: usize, kind: u32, met: u32) -> Stated
-    ensures { StatusAt kind met file.now at result }
+fn status_at(file: &[u8], at: usize, kind: Kind, met: u32) -> Result<Stated, Refusal>
+    ensures { StatusAt (kind_of kind) met file.now at result }
 {
     let most = most_status(kind, met);
-    let s = number_in(file, at, REQUIRED, most);
-    if s.number != DONE {
-        return no_status(s.number);
-    }
-    if s.value != FIXED {
-        return Stated {
-            number: DONE,
-            next: s.next,
-            status: s.value,
+    let s = number_in(file, at, 0, most)?;
+    let next = s.next;
+    match s.value {
+        0 => Ok(Stated {
+            next,
+            status: Status::Required,
             value: 0,
-        };
-    }
-    let v = number_in(file, s.next, 0, MOST_NUMBER);
-    if v.number != DONE {
-        return no_status(v.number);
-    }
-    Stated {
-        number: DONE,
-        next: v.next,
-        status: s.value,
-        value: v.value,
+        }),
+        1 => Ok(Stated {
+            next,
+            status: Status::Implied,
+            value: 0,
+        }),
+        _ => {
+            let v = number_in(file, next, 0, MOST_NUMBER)?;
+            Ok(Stated {
+                next: v.next,
+                status: Status::Fixed,
+                value: v.value,
+            })
+        }
     }
 }
 
 // ---- an attribute
 
-// An attribute that was read: 0, what it is and the place after it; or the refusal's number.
+// An attribute that was read, and the place after it.
 #[derive(Clone, Copy)]
 struct Declared {
-    number: u32,
     next: usize,
     attribute: u32,
-    kind: u32,
-    status: u32,
+    kind: Kind,
+    status: Status,
     value: u32,
 }
 
-// No attribute is taken.
-fn no_attribute(number: u32) -> Declared
-    ensures { result ≡ no_attribute number }
+// The kind with that number.
+fn kind_from(number: u32) -> Kind
+    requires { number ≤ 3 }
+    ensures { kind_of result ≡ number }
 {
-    Declared {
-        number,
-        next: 0,
-        attribute: 0,
-        kind: 0,
-        status: 0,
-        value: 0,
+    match number {
+        0 => Kind::Cdata,
+        1 => Kind::Id,
+        2 => Kind::Idref,
+        _ => Kind::Idrefs,
     }
 }
 
 // The attribute at a place of the file. Its number is `low` or more; `had` says that an ID was met, and `met` how many fixed ones.
-fn attribute_at(file: &[u8], at: usize, low: u32, had: bool, met: u32) -> Declared
+fn attribute_at(file: &[u8], at: usize, low: u32, had: bool, met: u32) -> Result<Declared, Refusal>
     ensures { AttributeAt low had met file.now at result }
 {
-    let a = number_in(file, at, low, HIGHEST_ATTRIBUTE);
-    if a.number != DONE {
-        return no_attribute(a.number);
+    let a = number_in(file, at, low, HIGHEST_ATTRIBUTE)?;
+    let k = number_in(file, a.next, 0, Kind::Idrefs as u32)?;
+    let kind = kind_from(k.value);
+    if had & (kind == Kind::Id) {
+        return Err(Refusal::Schema);
     }
-    let k = number_in(file, a.next, CDATA, IDREFS);
-    if k.number != DONE {
-        return no_attribute(k.number);
-    }
-    if had & (k.value == ID) {
-        return no_attribute(SCHEMA);
-    }
-    let s = status_at(file, k.next, k.value, met);
-    if s.number != DONE {
-        return no_attribute(s.number);
-    }
-    Declared {
-        number: DONE,
+    let s = status_at(file, k.next, kind, met)?;
+    Ok(Declared {
         next: s.next,
         attribute: a.value,
-        kind: k.value,
+        kind,
         status: s.status,
         value: s.value,
-    }
+    })
 }
 
 // ---- several
 
-// Attributes that were read: 0, the place after them, the least number that the next one may have, whether an ID was met, and
-// the five sets; or the refusal's number.
+// Attributes that were read: the place after them, the least number that the next one may have, whether an ID was met, and the five
+// sets.
 #[derive(Clone, Copy)]
 pub struct Attributes {
-    pub number: u32,
     pub next: usize,
     pub low: u32,
     pub had: bool,
@@ -157,12 +134,11 @@ pub struct Attributes {
     pub idrefs: u64,
 }
 
-// No attribute yet, before a place; or the refusal.
-fn no_attributes(number: u32, next: usize) -> Attributes
-    ensures { result ≡ no_sets number next }
+// No attribute yet, before a place.
+fn no_attributes(next: usize) -> Attributes
+    ensures { result ≡ no_sets next }
 {
     Attributes {
-        number,
         next,
         low: 0,
         had: false,
@@ -181,15 +157,14 @@ fn with_attribute(s: Attributes, a: Declared) -> Attributes
 {
     let alone = one(a.attribute);
     Attributes {
-        number: DONE,
         next: a.next,
         low: a.attribute + 1,
-        had: s.had | (a.kind == ID),
+        had: s.had | (a.kind == Kind::Id),
         allowed: s.allowed | alone,
-        required: s.required | when(a.status == REQUIRED, alone),
-        id: s.id | when(a.kind == ID, alone),
-        idref: s.idref | when(a.kind == IDREF, alone),
-        idrefs: s.idrefs | when(a.kind == IDREFS, alone),
+        required: s.required | when(a.status == Status::Required, alone),
+        id: s.id | when(a.kind == Kind::Id, alone),
+        idref: s.idref | when(a.kind == Kind::Idref, alone),
+        idrefs: s.idrefs | when(a.kind == Kind::Idrefs, alone),
     }
 }
 
@@ -198,10 +173,9 @@ fn note_fixed(fixed: &mut [u64], element: u32, a: Declared)
     requires { Room fixed.old a }
     ensures { fixed.new ≡ fixed_numbers (entries fixed.old ++ entries_of element (attribute_of a ∷ [])) }
 {
-    if a.status != FIXED {
-        return;
+    if a.status == Status::Fixed {
+        add_entry(fixed, element, a.attribute, a.value);
     }
-    add_entry(fixed, element, a.attribute, a.value);
 }
 
 // The `count` attributes of an element at a place of the file. The entries of its fixed ones go behind those of the elements before.
@@ -211,21 +185,16 @@ pub fn attributes_at(
     count: u32,
     element: u32,
     fixed: &mut [u64],
-) -> Attributes
+) -> Result<Attributes, Refusal>
     requires { (at ≤ length file.now) × (Held fixed.old) }
-    ensures { AttributesAt count element file.now at result fixed.old fixed.new }
+    ensures { AttributesAt count element file.now at fixed.old fixed.new result }
 {
-    let mut s = no_attributes(DONE, at);
-    let mut i: u32 = 0;
-    while i < count {
+    let mut s = no_attributes(at);
+    for _i in 0..count {
         let met = count_of(fixed);
-        let a = attribute_at(file, s.next, s.low, s.had, met);
-        if a.number != DONE {
-            return no_attributes(a.number, 0);
-        }
-        i += 1;
+        let a = attribute_at(file, s.next, s.low, s.had, met)?;
         note_fixed(fixed, element, a);
         s = with_attribute(s, a);
     }
-    s
+    Ok(s)
 }

@@ -1,5 +1,5 @@
 -- The pass over the attributes and values of one element. Assumes nothing.
-use Rattle.std.specs.Prelude.{◌≡◌, cond, ◌&&◌, ◌||◌, List, [], ◌∷◌, ℕ, zero, suc, ◌+◌, ◌/◌, ◌^◌, ◌≤◌, ◌<◌, leb, eqb, length, take, drop, get_or}
+use Rattle.std.specs.Prelude.{◌≡◌, Option, Some, None, cond, ◌&&◌, ◌||◌, List, [], ◌∷◌, ℕ, zero, suc, ◌+◌, ◌/◌, ◌^◌, ◌≤◌, ◌<◌, leb, eqb, length, drop, get_or}
 use Rattle.std.proofs.Math.Path.{refl, ap}
 use Rattle.std.proofs.Common.{sym, ap₂, ◌∙◌, add-one, arith, le-leb, eq-eqb, ne_eqb}
 use Rattle.std.proofs.Math.Bool.{Bool, true, false, not, and-true, and-false, and_assoc, or-false, or_assoc}
@@ -17,12 +17,11 @@ use Rattle.paper.specs.Judgement.{present, each_attr, attributes_good}
 use Rattle.basic_laws.specs.Bools.{clash}
 use Rattle.basic_laws.specs.Numbers.{eqb_sym}
 use Rattle.paper_laws.specs.Words.{bit_of_or, bit_one, bit_zero, bit_past}
-use Rattle.shape_laws.specs.Ends.{rest_next, rest_none}
+use Rattle.shape_laws.specs.Ends.{rest_at, rest_past}
 use Rattle.tokens.specs.Sorts.{attr_tok, value_tok}
 use Rattle.tokens.specs.Theorems.{attr_iff, value_iff}
 use Rattle.fixed_values.specs.Kept.{fixed_kept, kept_none}
 use Rattle.attributes.specs.declared.Met.{Met}
-use Rattle.attributes.specs.declared.Front.{Front}
 
 -- ---- the steps, as the code takes them
 
@@ -41,6 +40,9 @@ value_of m = record { set = m.set; takes = cond (eqb m.takes 1) 0 m.takes; good 
 
 abbrev pub finish : (required : ℕ) → Met → Bool
 finish required m = m.good && not (eqb m.takes 1) && within required m.set
+
+abbrev pub finished : (required : ℕ) → Met → (place : ℕ) → Option ℕ
+finished required m place = cond (finish required m) (Some place) None
 
 -- ---- what the steps answer
 
@@ -68,8 +70,12 @@ module _ (m : Met) where
   pub value_other : (m.takes ≡ 1 → ⊥) → record { set = m.set; takes = m.takes; good = m.good && not (eqb m.takes 0) } ≡ value_of m
   value_other f = rw (ne_eqb m.takes 1 f)
 
-  pub finish_is : (required : ℕ) {y : Bool} → y ≡ within required m.set → m.good && not (eqb m.takes 1) && y ≡ finish required m
-  finish_is required e = rw e
+  module _ (required place : ℕ) {y : Bool} (ey : y ≡ within required m.set) where
+    pub finished_some : (m.good && not (eqb m.takes 1) && y) ≡ true → Some place ≡ finished required m place
+    finished_some e = sym (ap (λ b. cond b (Some place) None) (ap (λ w. m.good && not (eqb m.takes 1) && w) (sym ey) ∙ e))
+
+    pub finished_none : (m.good && not (eqb m.takes 1) && y) ≡ false → None ≡ finished required m place
+    finished_none e = sym (ap (λ b. cond b (Some place) None) (ap (λ w. m.good && not (eqb m.takes 1) && w) (sym ey) ∙ e))
 
 -- "each one allowed, all required present, one value each unless IDREFS"
 unfoldable pub listed_good : Rules → ℕ → List Tok → Bool
@@ -78,43 +84,46 @@ listed_good R e h =
     && every (λ a. not (R.required e a) || present a h) 64
     && each_attr (λ a r. R.idrefs e a || eqb (values r) 1) h
 
--- the answer of the pass: whether the attributes are good so far, and a place behind them, where the same children stand at the same places
-pub record Listed (table : List ℕ) (e : ℕ) (doc : List ℕ) (used at : ℕ) (r : Front) : Type 0 where
-  pub good_is : r.good ≡ listed_good (of_table table) e (heads (drop at (toks (take used doc))))
-  pub within : r.after ≤ used
-  pub same : kids zero (drop r.after (toks (take used doc))) ≡ kids zero (drop at (toks (take used doc)))
-  pub places : (j : ℕ) → r.after + child_at j zero (drop r.after (toks (take used doc))) ≡ at + child_at j zero (drop at (toks (take used doc)))
+-- a place behind the attributes, where the same children stand at the same places
+pub record Behind (doc : List ℕ) (at after : ℕ) : Type 0 where
+  pub within : after ≤ length doc
+  pub same : kids zero (drop after (toks doc)) ≡ kids zero (drop at (toks doc))
+  pub places : (j : ℕ) → after + child_at j zero (drop after (toks doc)) ≡ at + child_at j zero (drop at (toks doc))
+
+-- the answer of the pass: that place, if the attributes are good so far
+abbrev pub Listed : (table : List ℕ) (e : ℕ) (doc : List ℕ) (at : ℕ) → Option ℕ → Type 0
+Listed table e doc at (Some after) = (true ≡ listed_good (of_table table) e (heads (drop at (toks doc)))) × Behind doc at after
+Listed table e doc at None = false ≡ listed_good (of_table table) e (heads (drop at (toks doc)))
 
 -- the whole answer
-pub record Judged (table : List ℕ) (e : ℕ) (doc : List ℕ) (used at : ℕ) (r : Front) : Type 0 where
-  pub good_is : r.good ≡ attributes_good (of_table table) e (heads (drop at (toks (take used doc))))
-  pub within : r.after ≤ used
-  pub same : kids zero (drop r.after (toks (take used doc))) ≡ kids zero (drop at (toks (take used doc)))
-  pub places : (j : ℕ) → r.after + child_at j zero (drop r.after (toks (take used doc))) ≡ at + child_at j zero (drop at (toks (take used doc)))
+abbrev pub Judged : (table : List ℕ) (e : ℕ) (doc : List ℕ) (at : ℕ) → Option ℕ → Type 0
+Judged table e doc at (Some after) = (true ≡ attributes_good (of_table table) e (heads (drop at (toks doc)))) × Behind doc at after
+Judged table e doc at None = false ≡ attributes_good (of_table table) e (heads (drop at (toks doc)))
 
 -- both tests are those of the judgement
 good_parts : (table : List ℕ) (e : ℕ) (h : List Tok) → attributes_good (of_table table) e h ≡ listed_good (of_table table) e h && fixed_kept table e h
 unfolding attributes_good listed_good fixed_kept
 good_parts table e h = refl
 
-module _ {table : List ℕ} {e : ℕ} {doc : List ℕ} {used at : ℕ} {f : Front} (c : Listed table e doc used at f) where
-  pub none_fixed : get_or table fixed_at 0 ≡ 0 → Judged table e doc used at f
-  none_fixed z =
-      let h : List Tok = heads (drop at (toks (take used doc))) in
-      record {
-        good_is = c.good_is ∙ sym (good_parts table e h ∙ ap (λ b. listed_good (of_table table) e h && b) (kept_none table e z h) ∙ and-true (listed_good (of_table table) e h));
-        within = c.within;
-        same = c.same;
-        places = c.places;
-      }
+module _ (table : List ℕ) (e : ℕ) (doc : List ℕ) (at : ℕ) where
+  abbrev h : List Tok
+  h = heads (drop at (toks doc))
 
-  pub some_fixed : {k : Bool} → k ≡ fixed_kept table e (heads (drop at (toks (take used doc)))) → Judged table e doc used at (record { good = f.good && k; after = f.after })
-  some_fixed {k} q = record {
-    good_is = ap₂ (λ a b. a && b) c.good_is q ∙ sym (good_parts table e (heads (drop at (toks (take used doc)))));
-    within = c.within;
-    same = c.same;
-    places = c.places;
-  }
+  pub not_listed : false ≡ listed_good (of_table table) e h → false ≡ attributes_good (of_table table) e h
+  not_listed n = sym (good_parts table e h ∙ ap (λ b. b && fixed_kept table e h) (sym n))
+
+  module _ {after : ℕ} (c : (true ≡ listed_good (of_table table) e h) × Behind doc at after) where
+    with_fixed : {k : Bool} → k ≡ fixed_kept table e h → k ≡ attributes_good (of_table table) e h
+    with_fixed {k} q = sym (good_parts table e h ∙ ap₂ (λ a b. a && b) (sym c.0) (sym q))
+
+    pub none_fixed : get_or table fixed_at 0 ≡ 0 → Judged table e doc at (Some after)
+    none_fixed z = (with_fixed (sym (kept_none table e z h)), c.1)
+
+    pub fixed_all : {k : Bool} → k ≡ fixed_kept table e h → k ≡ true → Judged table e doc at (Some after)
+    fixed_all {k} q n = (sym n ∙ with_fixed q, c.1)
+
+    pub fixed_not : {k : Bool} → k ≡ fixed_kept table e h → k ≡ false → Judged table e doc at None
+    fixed_not {k} q n = sym n ∙ with_fixed q
 
 -- ---- what is left to show, of the heads h behind what was passed
 
@@ -223,56 +232,59 @@ shows_begin table e h =
 -- ---- the loop
 
 -- up to place i: what the attributes from place `at` on must show is what those from place i on must
-pub record Passing (table : List ℕ) (e : ℕ) (doc : List ℕ) (used at required allowed idrefs : ℕ) (m : Met) (i : ℕ) : Type 0 where
-  pub here : i ≤ used
-  pub left : listed_good (of_table table) e (heads (drop at (toks (take used doc)))) ≡ shows required allowed idrefs m (heads (drop i (toks (take used doc))))
-  pub same : kids zero (drop i (toks (take used doc))) ≡ kids zero (drop at (toks (take used doc)))
-  pub places : (j : ℕ) → i + child_at j zero (drop i (toks (take used doc))) ≡ at + child_at j zero (drop at (toks (take used doc)))
+pub record Passing (table : List ℕ) (e : ℕ) (doc : List ℕ) (at required allowed idrefs : ℕ) (m : Met) (i : ℕ) : Type 0 where
+  pub behind : Behind doc at i
+  pub left : listed_good (of_table table) e (heads (drop at (toks doc))) ≡ shows required allowed idrefs m (heads (drop i (toks doc)))
 
-module _ (table : List ℕ) (e : ℕ) (doc : List ℕ) (used at : ℕ) where
+module _ (table : List ℕ) (e : ℕ) (doc : List ℕ) (at : ℕ) where
   abbrev d : List Tok
-  d = toks (take used doc)
+  d = toks doc
 
-  pub passing_begin : {required allowed idrefs : ℕ} → at ≤ used → required ≡ cell (block table e) required_at → allowed ≡ cell (block table e) allowed_at
-      → idrefs ≡ cell (block table e) idrefs_at → Passing table e doc used at required allowed idrefs begins at
-  passing_begin h r a i = record { here = h; left = rw (r, a, i) (shows_begin table e (heads (drop at d))); same = refl; places = λ j. refl }
+  pub passing_begin : {required allowed idrefs : ℕ} → at ≤ length doc → required ≡ cell (block table e) required_at → allowed ≡ cell (block table e) allowed_at
+      → idrefs ≡ cell (block table e) idrefs_at → Passing table e doc at required allowed idrefs begins at
+  passing_begin h r a i = record { behind = record { within = h; same = refl; places = λ j. refl }; left = rw (r, a, i) (shows_begin table e (heads (drop at d))) }
 
-  module _ {required allowed idrefs : ℕ} {m : Met} {i : ℕ} (c : Passing table e doc used at required allowed idrefs m i) where
-    module _ (h : i < used) (l : used ≤ length doc) where
+  module _ {required allowed idrefs : ℕ} {m : Met} {i : ℕ} (c : Passing table e doc at required allowed idrefs m i) where
+    module _ (h : i < length doc) where
       next : {x : Tok} → tok_of (get_or doc i 0) ≡ x → drop i d ≡ x ∷ drop (suc i) d
-      next e = rest_next doc used i h l ∙ ap (λ x. x ∷ drop (suc i) d) e
+      next e = rest_at doc i h ∙ ap (λ x. x ∷ drop (suc i) d) e
 
       pub passing_attribute : {a : ℕ} {y : Bool} {n : Met} → y ≡ attr_tok (tok_of (get_or doc i 0)) → y ≡ true → a ≡ get_or doc i 0 / 8
-          → n ≡ attribute_of allowed idrefs m a → Passing table e doc used at required allowed idrefs n (i + 1)
+          → n ≡ attribute_of allowed idrefs m a → Passing table e doc at required allowed idrefs n (i + 1)
       passing_attribute {a = a} ey t ea en =
           let q : drop i d ≡ Attr a ∷ drop (suc i) d = next ((attr_iff (get_or doc i 0)).0 (sym ey ∙ t) ∙ ap Attr (sym ea)) in
           rw en (record {
-            here = omega arith;
+            behind = record {
+              within = omega arith;
+              same = rw add-one (rw q at c.behind.same);
+              places = λ j. let p = rw q at (c.behind.places j) in rw add-one (omega arith);
+            };
             left = rw add-one (rw (q, shows_attribute _ _ _ m a (heads (drop (suc i) d))) at c.left);
-            same = rw add-one (rw q at c.same);
-            places = λ j. let p = rw q at (c.places j) in rw add-one (omega arith);
           })
 
       pub passing_value : {y : Bool} {n : Met} → y ≡ value_tok (tok_of (get_or doc i 0)) → y ≡ true → n ≡ value_of m
-          → Passing table e doc used at required allowed idrefs n (i + 1)
+          → Passing table e doc at required allowed idrefs n (i + 1)
       passing_value ey t en =
           let q : drop i d ≡ Value (get_or doc i 0 / 8) ∷ drop (suc i) d = next ((value_iff (get_or doc i 0)).0 (sym ey ∙ t)) in
           rw en (record {
-            here = omega arith;
+            behind = record {
+              within = omega arith;
+              same = rw add-one (rw q at c.behind.same);
+              places = λ j. let p = rw q at (c.behind.places j) in rw add-one (omega arith);
+            };
             left = rw add-one (rw (q, shows_value _ _ _ m (get_or doc i 0 / 8) (heads (drop (suc i) d))) at c.left);
-            same = rw add-one (rw q at c.same);
-            places = λ j. let p = rw q at (c.places j) in rw add-one (omega arith);
           })
 
-    ended : {y : Bool} → heads (drop i d) ≡ [] → y ≡ finish required m → Listed table e doc used at (record { good = y; after = i })
-    ended z ey = record { good_is = ey ∙ shows_end _ _ _ m ∙ sym (rw z at c.left); within = c.here; same = c.same; places = c.places }
+    ended : {r : Option ℕ} → heads (drop i d) ≡ [] → r ≡ finished required m i → Listed table e doc at r
+    ended {r} z er = rw er (go (finish required m) (shows_end _ _ _ m ∙ sym (rw z at c.left)))
+      where
+        go : (b : Bool) → b ≡ listed_good (of_table table) e (heads (drop at d)) → Listed table e doc at (cond b (Some i) None)
+        go true g = (g, c.behind)
+        go false g = g
 
-    pub passing_out : {y : Bool} → used ≤ i → y ≡ finish required m → Listed table e doc used at (record { good = y; after = i })
-    passing_out h ey = let z : i ≡ used = omega (arith, c.here) in ended (rw (z, rest_none doc used)) ey
-
-    pub passing_other : {x y z : Bool} → i < used → used ≤ length doc → x ≡ attr_tok (tok_of (get_or doc i 0)) → x ≡ false
-        → y ≡ value_tok (tok_of (get_or doc i 0)) → y ≡ false → z ≡ finish required m → Listed table e doc used at (record { good = z; after = i })
-    passing_other h l ex f ey g ez = ended (rw (rest_next doc used i h l) (no_head (tok_of (get_or doc i 0)) (sym ex ∙ f) (sym ey ∙ g))) ez
+    pub passing_other : {x y : Bool} {r : Option ℕ} → i < length doc → x ≡ attr_tok (tok_of (get_or doc i 0)) → x ≡ false
+        → y ≡ value_tok (tok_of (get_or doc i 0)) → y ≡ false → r ≡ finished required m i → Listed table e doc at r
+    passing_other h ex f ey g er = ended (rw (rest_at doc i h) (no_head (tok_of (get_or doc i 0)) (sym ex ∙ f) (sym ey ∙ g))) er
       where
         no_head : (t : Tok) → attr_tok t ≡ false → value_tok t ≡ false → heads (t ∷ drop (suc i) d) ≡ []
         no_head (Attr a) f g = clash refl f
@@ -281,3 +293,6 @@ module _ (table : List ℕ) (e : ℕ) (doc : List ℕ) (used at : ℕ) where
         no_head End f g = refl
         no_head (Text n) f g = refl
         no_head Bad f g = refl
+
+    pub passing_out : {r : Option ℕ} → length doc ≤ i → r ≡ finished required m (length doc) → Listed table e doc at r
+    passing_out h er = let z : length doc ≡ i = omega (arith, c.behind.within) in ended (rw (rest_past doc i h)) (er ∙ ap (finished required m) z)

@@ -7,7 +7,7 @@
 
 ghost use Rattle.std.specs.Prelude.{◌≡◌, true, ◌≤◌, ◌<◌, length, get_or};
 ghost use Rattle.paper.specs.Table.{proper};
-ghost use Rattle.attributes.specs.Attributes.{attribute_of, value_of, finish, Listed, Judged};
+ghost use Rattle.attributes.specs.Attributes.{attribute_of, value_of, finished, Listed, Judged};
 
 use fixed_values::fixed_kept;
 use paper::FIXED_AT;
@@ -22,13 +22,6 @@ struct Met {
     set: u64,
     takes: u32,
     good: bool,
-}
-
-// Whether the attributes are as they must be, and the place behind them.
-#[derive(Clone, Copy)]
-pub struct Front {
-    pub good: bool,
-    pub after: usize,
 }
 
 // Behind an attribute. One that is not allowed, or stands where a value is due, is a fault.
@@ -84,17 +77,22 @@ fn value(m: Met) -> Met
     }
 }
 
-// Where no attribute and no value is left: the last attribute has its value, and each that is required was met.
-fn finished(required: u64, m: Met) -> bool
-    ensures { result ≡ finish required m }
+// Where no attribute and no value is left: that place, if the last attribute has its value, and each that is required was met.
+fn finished(required: u64, m: Met, place: usize) -> Option<usize>
+    ensures { result ≡ finished required m place }
 {
-    m.good & (m.takes != 1) & is_within(required, m.set)
+    let good = m.good & (m.takes != 1) & is_within(required, m.set);
+    if good {
+        return Some(place);
+    }
+    None
 }
 
-// "attributes (8): each one allowed, all required present, one value each unless IDREFS": those that stand from a place on.
-fn listed(table: &[u64], e: usize, doc: &[u32], used: usize, at: usize) -> Front
-    requires { (proper table.now ≡ true) × (e < get_or table.now 0 0) × (used ≤ length doc.now) × (at ≤ used) }
-    ensures { Listed table.now e doc.now used at result }
+// "attributes (8): each one allowed, all required present, one value each unless IDREFS": the place behind those that stand from a place
+// on, if they are so.
+fn listed(table: &[u64], e: usize, doc: &[u32], at: usize) -> Option<usize>
+    requires { (proper table.now ≡ true) × (e < get_or table.now 0 0) × (at ≤ length doc.now) }
+    ensures { Listed table.now e doc.now at result }
 {
     let allowed = cell(table, e, paper::ALLOWED_AT);
     let idrefs = cell(table, e, paper::IDREFS_AT);
@@ -104,39 +102,33 @@ fn listed(table: &[u64], e: usize, doc: &[u32], used: usize, at: usize) -> Front
         takes: 2,
         good: true,
     };
-    let mut i = at;
-    while i < used {
+    for i in at..doc.len() {
         let t = doc[i];
         if is_attribute(t) {
             m = attribute(allowed, idrefs, m, number(t));
-            i += 1;
             continue;
         }
         if is_value(t) {
             m = value(m);
-            i += 1;
             continue;
         }
-        break;
+        return finished(required, m, i);
     }
-    Front {
-        good: finished(required, m),
-        after: i,
-    }
+    finished(required, m, doc.len())
 }
 
 // The same, and a fixed attribute "may be absent, and if present has exactly that value, else 8".
-pub fn attributes(table: &[u64], e: usize, doc: &[u32], used: usize, at: usize) -> Front
-    requires { (proper table.now ≡ true) × (e < get_or table.now 0 0) × (used ≤ length doc.now) × (at ≤ used) }
-    ensures { Judged table.now e doc.now used at result }
+pub fn attributes(table: &[u64], e: usize, doc: &[u32], at: usize) -> Option<usize>
+    requires { (proper table.now ≡ true) × (e < get_or table.now 0 0) × (at ≤ length doc.now) }
+    ensures { Judged table.now e doc.now at result }
 {
-    let front = listed(table, e, doc, used, at);
+    let after = listed(table, e, doc, at)?;
     if table[FIXED_AT] == 0 {
-        return front;
+        return Some(after);
     }
-    let kept = fixed_kept(table, e, doc, used, at);
-    Front {
-        good: front.good & kept,
-        after: front.after,
+    let kept = fixed_kept(table, e, doc, at);
+    if !kept {
+        return None;
     }
+    Some(after)
 }

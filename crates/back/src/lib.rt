@@ -10,7 +10,7 @@ ghost use Rattle.paper.specs.Basics.{most_tokens};
 ghost use Rattle.paper.specs.Back.{inverse, needs, noted};
 ghost use Rattle.back.specs.Noted.{adds_by, count_by, operation_by, headed, Cuts};
 
-use copying::copy_tokens;
+use copying::copy;
 
 // Whether an edit adds an attribute: a set that cuts nothing.
 fn adds(operation: u32, cut: usize) -> bool
@@ -75,8 +75,8 @@ pub fn note(
     let back = back_operation(operation, cut);
     note_head(second, back, place, need(operation, cut));
     if adds(operation, cut) {
-        copy_tokens(second, paper::BACK_PIECE, piece, 0, 1);
+        copy(second, paper::BACK_PIECE, piece, 0, 1);
     } else {
-        copy_tokens(second, paper::BACK_PIECE, doc, at, cut);
+        copy(second, paper::BACK_PIECE, doc, at, cut);
     }
 }

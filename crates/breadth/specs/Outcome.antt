@@ -1,19 +1,19 @@
 -- What the search answers. Assumes nothing.
-use Rattle.std.specs.Prelude.{◌≡◌, Bool, true, false, not, ◌&&◌, List, ℕ, ◌≤◌, ◌<◌, get_or}
+use Rattle.std.specs.Prelude.{◌≡◌, Bool, true, false, Option, Some, None, not, ◌&&◌, List, ℕ, ◌≤◌, ◌<◌, get_or}
 use Rattle.std.proofs.Common.{sym, ◌∙◌, arith}
 use Rattle.paper.specs.Basics.{sequence_places}
 use Rattle.paper.specs.Inclusion.{Compared, answered}
 use Rattle.inclusion_laws.specs.Search.{searched}
 use Rattle.inclusion_laws.specs.Pairs.{pairs, stops}
-use Rattle.breadth.specs.declared.Found.{Found}
 use Rattle.pairs.specs.Number.{old_at, new_at}
 use Rattle.trail.specs.Write.{Spelled, Wrote}
 use Rattle.breadth.specs.Going.{Going, Trying}
 use Rattle.breadth.specs.Turn.{go_room, go_none, go_found, go_take}
 
 -- the answer with the buffer, as the definition has it
-abbrev pub found_of : Found → List ℕ → Compared
-found_of r s = record { number = 0; takes_all = r.takes_all; len = r.length; buffer = s }
+abbrev pub found_of : Option ℕ → List ℕ → Compared
+found_of None s = record { number = 0; takes_all = 1; len = 0; buffer = s }
+found_of (Some n) s = record { number = 0; takes_all = 0; len = n; buffer = s }
 
 -- ---- the ways out of the search
 
@@ -24,7 +24,7 @@ loses_at old new p = stops old (old_at p) && not (stops new (new_at p))
 module _ {old new : List ℕ} {E : ℕ} {seen met from name : List ℕ} {head tail : ℕ} (g : Going old new E seen met from name head tail) where
   -- no pair is left
   pub none_lost : (before now : List ℕ) → tail ≤ head → now ≡ before
-      → found_of (record { takes_all = 1; length = 0 }) now ≡ answered (searched (pairs old new) E sequence_places) before
+      → found_of None now ≡ answered (searched (pairs old new) E sequence_places) before
   none_lost before now h e = rw (go_none g h, e)
 
   -- the entry at `head` loses what led to it
@@ -40,7 +40,7 @@ module _ {old new : List ℕ} {E : ℕ} {seen met from name : List ℕ} {head ta
       lost_short = let (w, s, l, a) = go_found g h (sym e ∙ t) in omega (arith, p.long w s)
 
       pub one_lost : (before : List ℕ) → now ≡ before
-          → found_of (record { takes_all = 0; length = n }) after ≡ answered (searched (pairs old new) E sequence_places) before
+          → found_of (Some n) after ≡ answered (searched (pairs old new) E sequence_places) before
       one_lost before d = let (w, s, l, a) = go_found g h (sym e ∙ t) in rw (a, p.long w s, p.text w s, d)
 
   -- it does not

@@ -1,9 +1,9 @@
 -- A name tried from an entry, in the code's arrays. Assumes nothing.
-use Rattle.std.specs.Prelude.{◌≡◌, refl, List, [], ◌∷◌, ◌++◌, ℕ, suc, ◌+◌, ◌-◌, ◌≤◌, ◌<◌, length, get_or, set}
-use Rattle.std.proofs.Common.{◌∙◌, ap, inl, add-one, arith, eq-eqb, ne_eqb, length-set, length-append, get_or-set_same}
-use Rattle.std.proofs.Math.Option.{Option, none, some}
+use Rattle.std.specs.Prelude.{◌≡◌, refl, Option, Some, None, List, [], ◌∷◌, ◌++◌, ℕ, suc, ◌+◌, ◌-◌, ◌≤◌, ◌<◌, length, get_or, set, replicate}
+use Rattle.std.proofs.Common.{sym, ◌∙◌, ap, inl, add-one, arith, eq-eqb, ne_eqb, length-set, length-append, get_or-set_same}
+use Rattle.std.proofs.Math.Option.{Option as Maybe, none, some}
 use Rattle.paper.specs.Basics.{sequence_places}
-use Rattle.inclusion_laws.specs.Members.{left_set}
+use Rattle.inclusion_laws.specs.Members.{blank, left_set}
 use Rattle.inclusion_laws.specs.Search.{Entry, Queue, offer, expand, found}
 use Rattle.inclusion_laws.specs.Invariant.{place}
 use Rattle.inclusion_laws.proofs.Turns.{offered, tried}
@@ -11,11 +11,15 @@ use Rattle.inclusion_laws.specs.Pairs.{Pair, Inside, InsideRun, pairs}
 use Rattle.inclusion_laws.proofs.Pairs.{good_inside}
 use Rattle.pairs.specs.Number.{Paired, leads_to}
 use Rattle.pairs.specs.Leads.{paired, numbered, leads_pair}
+use Rattle.std.proofs.lemmas.List.{length-map, length-replicate}
+use Rattle.trail.specs.declared.Entry.{Entry as Noted}
+use Rattle.trail.specs.Entries.{mets, froms, names, no_entry, mets_set, froms_set, names_set}
 use Rattle.trail.specs.Spells.{Spells, spells_set, spells_new}
-use Rattle.breadth.specs.Going.{sound_of, Queued, queued_set, queued_snoc, queue, Going, Trying}
+use Rattle.breadth.specs.Turn.{go_begin}
+use Rattle.breadth.specs.Going.{Blocks, sound_of, Queued, queued_set, queued_snoc, queue, Going, Trying}
 
 module _ {old new : List ℕ} {E : ℕ} {seen met from name : List ℕ} {head tail p a : ℕ} (g : Trying old new E seen met from name head tail p a) where
-  abbrev from_x : Option Pair
+  abbrev from_x : Maybe Pair
   from_x = (pairs old new).step g.x.pair a
 
   good : Inside old g.x.pair.was × InsideRun new g.x.pair.is
@@ -34,7 +38,7 @@ module _ {old new : List ℕ} {E : ℕ} {seen met from name : List ℕ} {head ta
   try_room = let r = g.expanding.base.room in let b = g.behind in let e = g.ends in omega arith
 
   -- the answer from a queue on, the names above a still to be tried from the entry
-  abbrev left_over : Queue Pair → Option (List ℕ)
+  abbrev left_over : Queue Pair → Maybe (List ℕ)
   left_over s =
       let t : Queue Pair = expand (pairs old new) g.x (suc a) (E - suc a) s in
       found (pairs old new) E (sequence_places - suc head) t.seen t.todo
@@ -75,20 +79,31 @@ module _ {old new : List ℕ} {E : ℕ} {seen met from name : List ℕ} {head ta
   same h e = tried_one h seen met from name g.todo tail e g.queued g.spelled g.ends g.met_long g.from_long g.name_long
 
   -- it leads nowhere
-  pub try_nowhere : (q : ℕ) → a < E → q ≡ leads_to old new p a → sequence_places ≤ q → Trying old new E seen met from name head tail p (a + 1)
-  try_nowhere q h e l = same h (go from_x refl (e ∙ leads_step))
+  pub try_nowhere : {r : Option ℕ} → a < E → r ≡ leads_to old new p a → r ≡ None → Trying old new E seen met from name head tail p (a + 1)
+  try_nowhere {r} h e l = same h (go from_x (sym l ∙ e ∙ leads_step))
     where
-      go : (o : Option Pair) → from_x ≡ o → q ≡ numbered old new o → offer (pairs old new) g.x a o (queue seen g.todo) ≡ queue seen g.todo
-      go none d k = refl
-      go (some y) d k = let b = pair_below y d in absurd (omega arith)
+      go : (o : Maybe Pair) → None ≡ numbered old new o → offer (pairs old new) g.x a o (queue seen g.todo) ≡ queue seen g.todo
+      go none k = refl
+      go (some y) k = cc
 
   -- it leads to a pair that was met
-  pub try_met : (q : ℕ) → a < E → q ≡ leads_to old new p a → q < sequence_places → ¬ (get_or seen q 0 ≡ 0) → Trying old new E seen met from name head tail p (a + 1)
-  try_met q h e l n = same h (go from_x (e ∙ leads_step))
+  pub try_met : {r : Option ℕ} (q : ℕ) → a < E → r ≡ leads_to old new p a → r ≡ Some q → ¬ (get_or seen q 0 ≡ 0) → Trying old new E seen met from name head tail p (a + 1)
+  try_met q h e l n = same h (go from_x (sym l ∙ e ∙ leads_step))
     where
-      go : (o : Option Pair) → q ≡ numbered old new o → offer (pairs old new) g.x a o (queue seen g.todo) ≡ queue seen g.todo
+      go : (o : Maybe Pair) → Some q ≡ numbered old new o → offer (pairs old new) g.x a o (queue seen g.todo) ≡ queue seen g.todo
       go none k = refl
-      go (some y) k = rw (← k, ne_eqb (get_or seen q 0) 0 n)
+      go (some y) k = let d : q ≡ (pairs old new).number y = cc in rw (← d, ne_eqb (get_or seen q 0) 0 n)
+
+  -- a pair's number is a place of the marks
+  pub try_below : {r : Option ℕ} (q : ℕ) → r ≡ leads_to old new p a → r ≡ Some q → q < sequence_places
+  try_below q e l = go from_x refl (sym l ∙ e ∙ leads_step)
+    where
+      go : (o : Maybe Pair) → from_x ≡ o → Some q ≡ numbered old new o → q < sequence_places
+      go none d k = cc
+      go (some y) d k = let b = pair_below y d in let e : q ≡ (pairs old new).number y = cc in omega arith
+
+  pub try_marked : {r : Option ℕ} (q : ℕ) → r ≡ leads_to old new p a → r ≡ Some q → q < length seen
+  try_marked q e l = let b = try_below q e l in let s = g.expanding.base.size in omega arith
 
   -- it leads to a new pair: there is room for it
   new_room : (q : ℕ) → q < sequence_places → get_or seen q 0 ≡ 0 → tail < sequence_places
@@ -100,21 +115,22 @@ module _ {old new : List ℕ} {E : ℕ} {seen met from name : List ℕ} {head ta
       let e = g.ends in
       omega arith
 
-  pub new_places : (q : ℕ) → q < sequence_places → get_or seen q 0 ≡ 0 → (tail < length met) × (tail < length from) × (tail < length name)
-  new_places q l n = let t = new_room q l n in (omega (arith, g.met_long), omega (arith, g.from_long), omega (arith, g.name_long))
+  pub new_places : {r : Option ℕ} (q : ℕ) → r ≡ leads_to old new p a → r ≡ Some q → get_or seen q 0 ≡ 0 → (tail < length met) × (tail < length from) × (tail < length name)
+  new_places q e l n = let t = new_room q (try_below q e l) n in (omega (arith, g.met_long), omega (arith, g.from_long), omega (arith, g.name_long))
 
-  pub try_new : (q : ℕ) → a < E → q ≡ leads_to old new p a → q < sequence_places → get_or seen q 0 ≡ 0
+  pub try_new : {r : Option ℕ} (q : ℕ) → a < E → r ≡ leads_to old new p a → r ≡ Some q → get_or seen q 0 ≡ 0
       → Trying old new E (set seen q 1) (set met tail q) (set from tail head) (set name tail a) head (tail + 1) p (a + 1)
-  try_new q h e l n = go from_x refl (e ∙ leads_step)
+  try_new q h e l n = go from_x refl (sym l ∙ e ∙ leads_step)
     where
-      go : (o : Option Pair) → from_x ≡ o → q ≡ numbered old new o
+      go : (o : Maybe Pair) → from_x ≡ o → Some q ≡ numbered old new o
           → Trying old new E (set seen q 1) (set met tail q) (set from tail head) (set name tail a) head (tail + 1) p (a + 1)
-      go none d k = absurd (omega arith)
-      go (some y) d k =
-          let t = new_room q l n in
+      go none d k = cc
+      go (some y) d c =
+          let k : q ≡ (pairs old new).number y = cc in
+          let t = new_room q (try_below q e l) n in
           let m = g.met_long in
           let f = g.from_long in
-          let c = g.name_long in
+          let u = g.name_long in
           let b = g.ends in
           let v : Entry Pair = record { pair = y; word = g.x.word ++ a ∷ [] } in
           let i : head < tail = omega arith in
@@ -128,7 +144,7 @@ module _ {old new : List ℕ} {E : ℕ} {seen met from name : List ℕ} {head ta
           (omega (arith, length-append g.todo (v ∷ [])))
           (length-set met tail q ∙ m)
           (length-set from tail head ∙ f)
-          (length-set name tail a ∙ c)
+          (length-set name tail a ∙ u)
 
   -- every name was tried
   pub try_all : E ≤ a → Going old new E seen met from name (head + 1) tail
@@ -149,3 +165,27 @@ module _ {old new : List ℕ} {E : ℕ} {seen met from name : List ℕ} {head ta
         from_long = g.from_long;
         name_long = g.name_long;
       })
+
+-- ---- the same of entries
+
+module _ {old new : List ℕ} {E : ℕ} {seen : List ℕ} (es : List Noted) {head tail p a : ℕ} (g : Trying old new E seen (mets es) (froms es) (names es) head tail p a) where
+  pub entry_here : head < length es
+  entry_here = let r = try_room g in let e = g.ends in omega (arith, g.met_long, length-map es (λ (e : Noted). e.met))
+
+  pub entry_room : {r : Option ℕ} (q : ℕ) → r ≡ leads_to old new p a → r ≡ Some q → get_or seen q 0 ≡ 0 → tail < length es
+  entry_room q e l n = let (i, j, k) = new_places g q e l n in omega (arith, length-map es (λ (e : Noted). e.met))
+
+  pub entry_new : {r : Option ℕ} (q : ℕ) → a < E → r ≡ leads_to old new p a → r ≡ Some q → get_or seen q 0 ≡ 0 → (x : Noted) → x ≡ record { met = q; from = head; name = a }
+      → Trying old new E (set seen q 1) (mets (set es tail x)) (froms (set es tail x)) (names (set es tail x)) head (tail + 1) p (a + 1)
+  entry_new q h e l n x i = rw (i, mets_set, froms_set, names_set) (try_new g q h e l n)
+
+-- ---- the first entry
+
+-- the entries as the search begins
+abbrev pub started : List Noted
+started = set (replicate sequence_places no_entry) 0 (record { met = 1; from = 0; name = 0 })
+
+pub go_started : {old new : List ℕ} {E : ℕ} → Blocks old new E → Going old new E (set (blank sequence_places) 1 1) (mets started) (froms started) (names started) 0 1
+go_started b =
+    let long : length started ≡ sequence_places = length-set (replicate sequence_places no_entry) 0 (record { met = 1; from = 0; name = 0 }) ∙ length-replicate sequence_places no_entry in
+    go_begin b (mets started) (froms started) (names started) refl (length-map started (λ (e : Noted). e.met) ∙ long) (length-map started (λ (e : Noted). e.from) ∙ long) (length-map started (λ (e : Noted). e.name) ∙ long)

@@ -4,9 +4,8 @@ use Rattle.std.proofs.Math.Path.{refl}
 use Rattle.std.proofs.Common.{sym, ◌∙◌, inl, inr, arith}
 use Rattle.std.proofs.Math.Option.{none, some}
 use mathlib.Core.List.{List, [], ◌∷◌}
-use Rattle.std.proofs.Math.ListN.{length-set}
 use Rattle.paper.specs.Basics.{sequence_places}
-use Rattle.inclusion_laws.specs.Members.{blank, blank_long}
+use Rattle.inclusion_laws.specs.Members.{blank}
 use Rattle.inclusion_laws.specs.Search.{Entry, found, searched}
 use Rattle.inclusion_laws.specs.Turns.{Standing}
 use Rattle.inclusion_laws.proofs.Turns.{taken}
@@ -36,21 +35,22 @@ record Facing (old new : List ℕ) (E : ℕ) (seen met from name : List ℕ) (he
 module _ {old new : List ℕ} {E : ℕ} where
   -- ---- the start
 
-  pub go_begin : Blocks old new E → Going old new E (set (blank sequence_places) 1 1) (set (blank sequence_places) 0 1) (blank sequence_places) (blank sequence_places) 0 1
+  pub go_begin : Blocks old new E → (met from name : List ℕ) → get_or met 0 0 ≡ 1 → length met ≡ sequence_places → length from ≡ sequence_places → length name ≡ sequence_places
+      → Going old new E (set (blank sequence_places) 1 1) met from name 0 1
   unfolding searched
-  go_begin b = record {
+  go_begin b met from name here met_long from_long name_long = record {
     blocks = b;
     done = [];
     todo = record { pair = (pairs old new).begin; word = [] } ∷ [];
     lo = 0;
     stands = begins_at (pairs old new) E sequence_places (sound_of old new E b);
-    queued = (refl, root refl refl, tt);
+    queued = (here, root refl refl, tt);
     ends = refl;
     behind = refl;
     answer = refl;
-    met_long = length-set (blank sequence_places) 0 1 ∙ blank_long sequence_places;
-    from_long = blank_long sequence_places;
-    name_long = blank_long sequence_places;
+    met_long = met_long;
+    from_long = from_long;
+    name_long = name_long;
   }
 
   -- ---- the next entry

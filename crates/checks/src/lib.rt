@@ -4,10 +4,11 @@
 #![tactic(auto)]
 
 ghost use Rattle.paper.specs.Calls.{Checks, Tells};
+ghost use Rattle.paper.specs.Codes.{told};
 
 use counts::{count, read};
 use docfile::Count;
-use keys::Fault;
+use paper::Fault;
 
 // The check of a document. "written by a check that says valid": the counts are then a fresh count, else as they were.
 pub fn check(
@@ -15,16 +16,13 @@ pub fn check(
     doc: &[u32],
     used: usize,
     counts: &mut [i32; paper::MOST_ELEMENTS],
-) -> Fault
-    ensures { Checks table.now doc.now used counts.old ((result.number, result.place), counts.new) }
+) -> Result<(), Fault>
+    ensures { Checks table.now doc.now used counts.old (told result, counts.new) }
 {
-    let said = judge::check(table, doc, used);
-    if said.number != paper::DONE {
-        return said;
-    }
+    judge::check(table, doc, used)?;
     let elements = table[0] as u32;
     count(&doc[..used], elements, counts);
-    said
+    Ok(())
 }
 
 // "and answer from them": the number of elements of a name. "Names of E and above [..] answer 0." 13 for a table that is not proper; 15 for a
@@ -38,13 +36,12 @@ pub fn elements(table: &[u64], counts: &[i32; paper::MOST_ELEMENTS], name: u32) 
             count: 0,
         };
     }
-    let mut now = [0u32; paper::MOST_ELEMENTS];
-    if !read(counts, &mut now) {
+    let Some(now) = read(counts) else {
         return Count {
             number: paper::COUNTS,
             count: 0,
         };
-    }
+    };
     if name as u64 >= table[0] {
         return Count {
             number: paper::DONE,

@@ -1,21 +1,18 @@
 -- The content of one element, by its kind. Assumes nothing.
-use Rattle.std.specs.Prelude.{◌≡◌, refl, length, take, drop}
-use Rattle.std.proofs.Common.{sym, ◌∙◌, arith, ne_eqb, length-drop}
+use Rattle.std.specs.Prelude.{◌≡◌, refl, length, drop, Result, Err}
+use Rattle.std.proofs.Common.{◌∙◌, arith, ne_eqb, length-drop}
+use Rattle.std.proofs.lemmas.List.{length-map}
 use Rattle.std.proofs.Math.Path.{ap, ap₂}
 use mathlib.Core.List.{List, [], ◌∷◌}
 use Prim.Native.Nat.{ℕ, zero, suc, ◌+◌, ◌≤◌, ◌<◌, suc-le-suc}
 use Rattle.paper.specs.declared.Tok.{Tok}
 use Rattle.paper.specs.declared.Tok.TheVariants.{Start, End, Text, Attr, Value, Bad}
 use Rattle.paper.specs.Basics.{null}
-use Rattle.paper.specs.Tokens.{toks, kids, child_at}
+use Rattle.paper.specs.Tokens.{tok_of, toks, kids, child_at}
 use Rattle.paper.specs.Table.{block, cell, kind_at}
 use Rattle.paper.specs.Rules.{Rules, start, of_table}
 use Rattle.paper.specs.Judgement.{text_or_none, content, content_good, content_begun, stop_after}
-use Rattle.shape_laws.specs.Bridge.{length_toks}
-use Rattle.stops.specs.declared.Stop.{Stop}
-use Rattle.stops.specs.declared.Walk.{Walk}
-use Rattle.stops.specs.declared.Stop.TheVariants.{At}
-use Rattle.stops.specs.Stop.{stop_by, is_at, content_stop, only_texts, texts_stop, texts_stop_lem, model_stop, good_from, begun_from, model_stop_lem, Walked, walked_as}
+use Rattle.stops.specs.Stop.{stop_by, content_stop, only_texts, texts_stop, texts_stop_lem, model_stop, good_from, begun_from, model_stop_lem, walked, walked_err}
 
 -- no text, and one at most
 no_texts : (k : List Tok) → only_texts 0 k ≡ null k
@@ -51,22 +48,23 @@ module _ (table : List ℕ) (e : ℕ) {kind : ℕ} (ek : kind ≡ cell (block ta
       begun_is : (k : List Tok) → content kind (R.begins e) k ≡ content_begun R e k
       begun_is k = ap (λ x. content x (R.begins e) k) ek
 
-  pub content_texts : (d : List Tok) (i : ℕ) {w : Walk} → kind < 2 → Walked (texts_stop kind i d) d w → Walked (content_stop (of_table table) e i d) d w
-  content_texts d i h er = walked_as er (texts_stop_lem d kind i ∙ go kind h ∙ by_kind i d)
+  pub content_texts : (d : List Tok) (i : ℕ) {r : Result ℕ ℕ} → kind < 2 → r ≡ walked (texts_stop kind i d) d → r ≡ walked (content_stop (of_table table) e i d) d
+  content_texts d i h er = er ∙ ap (λ o. walked o d) (texts_stop_lem d kind i ∙ go kind h ∙ by_kind i d)
     where
       go : (kind : ℕ) → kind < 2 → stop_by (only_texts kind) (only_texts kind) i zero d ≡ stop_by (content kind (R.describes e)) (content kind (R.begins e)) i zero d
       go zero h = ap (λ f. stop_by f f i zero d) (λ j k. no_texts k j)
       go (suc zero) h = ap (λ f. stop_by f f i zero d) (λ j k. text_or_none_lem k j)
       go (suc (suc n)) h = absurd (omega arith)
 
-  pub content_model : (doc : List ℕ) (used i : ℕ) {b : List ℕ} {w : Walk} → 2 ≤ kind → used ≤ length doc → i ≤ used → b ≡ block table e
-      → Walked (model_stop b used start zero i (drop i (toks (take used doc)))) (drop i (toks (take used doc))) w
-      → Walked (content_stop (of_table table) e i (drop i (toks (take used doc)))) (drop i (toks (take used doc))) w
-  content_model doc used i {b} h l u eb er =
-      let d : List Tok = drop i (toks (take used doc)) in
-      let z : i + length d ≡ used = omega (arith, length-drop i (toks (take used doc)), length_toks doc used l) in
-      walked_as er
-      (model_stop_lem b used d start zero i z
+  pub content_model : (doc : List ℕ) (i : ℕ) {b : List ℕ} {r : Result ℕ ℕ} → 2 ≤ kind → i ≤ length doc → b ≡ block table e
+      → r ≡ walked (model_stop b (length doc) start zero i (drop i (toks doc))) (drop i (toks doc))
+      → r ≡ walked (content_stop (of_table table) e i (drop i (toks doc))) (drop i (toks doc))
+  content_model doc i {b} h u eb er =
+      let d : List Tok = drop i (toks doc) in
+      let z : i + length d ≡ length doc = omega (arith, length-drop i (toks doc), length-map doc tok_of) in
+      er
+      ∙ ap (λ o. walked o d)
+      (model_stop_lem b (length doc) d start zero i z
       ∙ ap₂ (λ good begun. stop_by good begun i zero d) (λ j k. good_is k j) (λ j k. begun_is k j)
       ∙ by_kind i d)
     where
@@ -93,10 +91,10 @@ child_within j k (Value n ∷ d) = suc-le-suc (child_within j k d)
 child_within j k (Bad ∷ d) = suc-le-suc (child_within j k d)
 
 -- it is no further than behind the last token
-pub stop_within : (rules : Rules) (e : ℕ) (doc : List ℕ) (used i : ℕ) {r : Stop} {place : ℕ} → used ≤ length doc → i ≤ used
-    → r ≡ content_stop rules e i (drop i (toks (take used doc))) → r ≡ At place → place ≤ used
-stop_within rules e doc used i l h er ep =
-    let d : List Tok = drop i (toks (take used doc)) in
+pub stop_within : (rules : Rules) (e : ℕ) (doc : List ℕ) (i : ℕ) {place : ℕ} → i ≤ length doc
+    → Err place ≡ walked (content_stop rules e i (drop i (toks doc))) (drop i (toks doc)) → place ≤ length doc
+stop_within rules e doc i h er =
+    let d : List Tok = drop i (toks doc) in
     let j : ℕ = stop_after (content_begun rules e) (kids zero d) in
-    let (_, p) = is_at (content_good rules e (kids zero d)) (i + child_at j zero d) (sym er ∙ ep) in
-    omega (arith, p, child_within j zero d, length-drop i (toks (take used doc)), length_toks doc used l)
+    let (_, p) = walked_err (content_good rules e (kids zero d)) (i + child_at j zero d) d er in
+    omega (arith, p, child_within j zero d, length-drop i (toks doc), length-map doc tok_of)

@@ -1,6 +1,6 @@
 -- The run over the children of an element that has a model. Assumes nothing.
-use Rattle.std.specs.Prelude.{◌≡◌, refl, Bool, true, false, not, List, [], ◌∷◌, ℕ, zero, suc, ◌+◌, ◌-◌, ◌/◌, ◌≤◌, ◌<◌, length, take, drop, get_or}
-use Rattle.std.proofs.Common.{sym, ap, ◌∙◌, add-one, arith, drop_of_length-le}
+use Rattle.std.specs.Prelude.{◌≡◌, refl, Bool, true, false, not, List, [], ◌∷◌, ℕ, zero, suc, ◌+◌, ◌-◌, ◌/◌, ◌≤◌, ◌<◌, length, drop, get_or, Result, Ok, Err}
+use Rattle.std.proofs.Common.{sym, ap, ◌∙◌, add-one, arith}
 use Rattle.std.proofs.Math.Option.{Option, none, some}
 use Rattle.std.proofs.lemmas.Bool.{not-true, not-false}
 use Rattle.paper.specs.declared.Tok.{Tok}
@@ -8,25 +8,19 @@ use Rattle.paper.specs.declared.Tok.TheVariants.{Start, End, Text, Attr, Value, 
 use Rattle.paper.specs.Tokens.{tok_of, toks, kids, starts}
 use Rattle.paper.specs.Rules.{State, start, ended, goes_on}
 use Rattle.basic_laws.specs.Bools.{clash}
-use Rattle.shape_laws.specs.Ends.{rest_next}
-use Rattle.shape_laws.specs.Bridge.{length_toks}
+use Rattle.shape_laws.specs.Ends.{rest_at, rest_past}
 use Rattle.table.specs.declared.Run.{Run}
 use Rattle.table.specs.Run.{state_of, stepped, inside, Stepped}
 use Rattle.tokens.specs.Sorts.{ends, text_tok}
 use Rattle.tokens.specs.Theorems.{start_iff, end_iff, text_iff}
-use Rattle.stops.specs.declared.Stop.{Stop}
-use Rattle.stops.specs.declared.Stop.TheVariants.{Nowhere, At}
-use Rattle.stops.specs.Stop.{stopped, model_stop, Walked, walked_at}
+use Rattle.stops.specs.Stop.{stopped, model_stop, walked}
 use Rattle.children.specs.Closed.{behind, Next, next_is}
 
 -- ---- no child is left
 
-module _ {good y : Bool} (place : ℕ) (e : y ≡ good) where
-  pub end_none : y ≡ true → Nowhere ≡ stopped good place
-  end_none t = rw (← e, t)
-
-  pub end_early : y ≡ false → At place ≡ stopped good place
-  end_early f = rw (← e, f)
+abbrev pub asked : Bool → ℕ → ℕ → Result ℕ ℕ
+asked true children place = Ok children
+asked false children place = Err place
 
 -- ---- the loop
 
@@ -49,43 +43,56 @@ no_child (Value m) r f g h = refl
 no_child Bad r f g h = refl
 
 -- where the children from place `at` on stop is where those from place i on do, after n that the run passed
-pub record Running (b doc : List ℕ) (used at i : ℕ) (run : Run) (n : ℕ) : Type 0 where
-  pub here : i ≤ used + 1
+pub record Running (b doc : List ℕ) (at i : ℕ) (run : Run) (n : ℕ) : Type 0 where
+  pub here : i ≤ length doc + 1
   pub few : n ≤ i
-  pub counted : length (kids zero (drop at (toks (take used doc)))) ≡ n + length (kids zero (drop i (toks (take used doc))))
+  pub counted : length (kids zero (drop at (toks doc))) ≡ n + length (kids zero (drop i (toks doc)))
   pub state : State
   pub stands : state_of run ≡ some state
   pub within : inside b (state_of run) ≡ true
-  pub left : model_stop b used start zero at (drop at (toks (take used doc))) ≡ model_stop b used state zero i (drop i (toks (take used doc)))
+  pub left : model_stop b (length doc) start zero at (drop at (toks doc)) ≡ model_stop b (length doc) state zero i (drop i (toks doc))
 
-module _ (b doc : List ℕ) (used at : ℕ) where
+module _ (b doc : List ℕ) (at : ℕ) where
   abbrev d : List Tok
-  d = toks (take used doc)
+  d = toks doc
 
-  pub running_begin : {run : Run} → at ≤ used → state_of run ≡ some start → Running b doc used at at run 0
+  abbrev end : ℕ
+  end = length doc
+
+  pub running_begin : {run : Run} → at ≤ length doc → state_of run ≡ some start → Running b doc at at run 0
   running_begin h e = record { here = omega arith; few = omega arith; counted = omega arith; state = start; stands = e; within = rw e; left = refl }
 
-  module _ {i n : ℕ} {run : Run} (c : Running b doc used at i run n) where
+  module _ {i n : ℕ} {run : Run} (c : Running b doc at i run n) where
     -- no child is left
-    ending : (place : ℕ) (rest : List Tok) {r : Stop} → drop i (toks (take used doc)) ≡ rest → length (kids zero rest) ≡ 0
-        → model_stop b used c.state zero i rest ≡ stopped (ended b (some c.state)) place → r ≡ stopped (ended b (state_of run)) place
-        → Walked (model_stop b used start zero at (drop at (toks (take used doc)))) (drop at (toks (take used doc))) (record { stop = r; children = n })
-    ending place rest er k z e = record {
-      stops = e ∙ ap (λ o. stopped (ended b o) place) c.stands ∙ sym (c.left ∙ ap (model_stop b used c.state zero i) er ∙ z);
-      counted = λ y. omega (arith, c.counted, ap (λ l. length (kids zero l)) er);
-    }
+    ending : (place : ℕ) (rest : List Tok) {r : Result ℕ ℕ} → drop i (toks doc) ≡ rest → length (kids zero rest) ≡ 0
+        → model_stop b end c.state zero i rest ≡ stopped (ended b (some c.state)) place → r ≡ asked (ended b (state_of run)) n place
+        → r ≡ walked (model_stop b (length doc) start zero at (drop at (toks doc))) (drop at (toks doc))
+    ending place rest er k z e =
+        let q : n ≡ length (kids zero (drop at d)) = omega (arith, c.counted, ap (λ l. length (kids zero l)) er) in
+        e
+        ∙ ap (λ o. asked (ended b o) n place) c.stands
+        ∙ told (ended b (some c.state)) q
+        ∙ ap (λ o. walked o (drop at d)) (sym (c.left ∙ ap (model_stop b end c.state zero i) er ∙ z))
+      where
+        told : (good : Bool) → n ≡ length (kids zero (drop at d)) → asked good n place ≡ walked (stopped good place) (drop at d)
+        told true q = ap Ok q
+        told false q = refl
 
-    pub running_out : {r : Stop} → used ≤ i → used ≤ length doc → r ≡ stopped (ended b (state_of run)) used
-        → Walked (model_stop b used start zero at (drop at (toks (take used doc)))) (drop at (toks (take used doc))) (record { stop = r; children = n })
-    running_out h l e = ending used [] (drop_of_length-le (toks (take used doc)) {i = i} (omega (arith, length_toks doc used l))) refl refl e
+    pub running_out : {r : Result ℕ ℕ} → length doc ≤ i → r ≡ asked (ended b (state_of run)) n (length doc)
+        → r ≡ walked (model_stop b (length doc) start zero at (drop at (toks doc))) (drop at (toks doc))
+    running_out h e = ending (length doc) [] (rest_past doc i h) refl refl e
 
-    module _ (h : i < used) (l : used ≤ length doc) where
-      here_is : {x : Tok} → tok_of (get_or doc i 0) ≡ x → drop i (toks (take used doc)) ≡ x ∷ drop (suc i) (toks (take used doc))
-      here_is e = rw (rest_next doc used i h l, e)
+    module _ (h : i < length doc) where
+      here_is : {x : Tok} → tok_of (get_or doc i 0) ≡ x → drop i (toks doc) ≡ x ∷ drop (suc i) (toks doc)
+      here_is e = rw (rest_at doc i h, e)
 
       next : {x : Tok} → tok_of (get_or doc i 0) ≡ x
-          → model_stop b used start zero at (drop at (toks (take used doc))) ≡ model_stop b used c.state zero i (x ∷ drop (suc i) (toks (take used doc)))
-      next e = c.left ∙ ap (model_stop b used c.state zero i) (here_is e)
+          → model_stop b end start zero at (drop at d) ≡ model_stop b end c.state zero i (x ∷ drop (suc i) d)
+      next e = c.left ∙ ap (model_stop b end c.state zero i) (here_is e)
+
+      -- they stop here
+      stops_here : model_stop b end start zero at (drop at d) ≡ some i → Err i ≡ walked (model_stop b (length doc) start zero at (drop at (toks doc))) (drop at (toks doc))
+      stops_here e = ap (λ o. walked o (drop at d)) (sym e)
 
       module _ {x : Bool} (ex : x ≡ starts (tok_of (get_or doc i 0))) where
         module _ {m : ℕ} {q : Run} {y : Bool} (t : x ≡ true) (em : m ≡ get_or doc i 0 / 8) (s : Stepped b run m q) (ey : y ≡ goes_on (state_of q)) where
@@ -93,29 +100,28 @@ module _ (b doc : List ℕ) (used at : ℕ) where
           is_child = (start_iff (get_or doc i 0)).0 (sym ex ∙ t) ∙ ap Start (sym em)
 
           -- by where the run stands after the child
-          child : model_stop b used start zero at (drop at (toks (take used doc)))
-              ≡ elim (state_of q) [ none ↦ At i | some t ↦ model_stop b used t 1 (suc i) (drop (suc i) (toks (take used doc))) ]
+          child : model_stop b end start zero at (drop at d)
+              ≡ elim (state_of q) [ none ↦ some i | some t ↦ model_stop b end t 1 (suc i) (drop (suc i) d) ]
           child =
               next is_child
-              ∙ ap (λ (o : Option State). elim o [ none ↦ At i | some t ↦ model_stop b used t 1 (suc i) (drop (suc i) (toks (take used doc))) ])
+              ∙ ap (λ (o : Option State). elim o [ none ↦ some i | some t ↦ model_stop b end t 1 (suc i) (drop (suc i) d) ])
               (sym (s.same ∙ ap (λ o. stepped b o m) c.stands))
 
-          pub running_lost : not y ≡ true
-              → Walked (model_stop b used start zero at (drop at (toks (take used doc)))) (drop at (toks (take used doc))) (record { stop = At i; children = 0 })
-          running_lost f = walked_at (model_stop b used start zero at (drop at d)) (drop at d) i (sym (child ∙ go (state_of q) (sym ey ∙ not-true y f)))
+          pub running_lost : not y ≡ true → Err i ≡ walked (model_stop b (length doc) start zero at (drop at (toks doc))) (drop at (toks doc))
+          running_lost f = stops_here (child ∙ go (state_of q) (sym ey ∙ not-true y f))
             where
               go : (o : Option State) → goes_on o ≡ false
-                  → elim o [ none ↦ At i | some t ↦ model_stop b used t 1 (suc i) (drop (suc i) (toks (take used doc))) ] ≡ At i
+                  → elim o [ none ↦ some i | some t ↦ model_stop b end t 1 (suc i) (drop (suc i) d) ] ≡ some i
               go none f = refl
               go (some t) f = clash refl f
 
-          pub running_child : {r : ℕ} → not y ≡ false → r ≡ behind doc used i → Running b doc used at r q (n + 1)
+          pub running_child : {r : ℕ} → not y ≡ false → r ≡ behind doc i → Running b doc at r q (n + 1)
           running_child {r} g er = go (state_of q) refl (sym ey ∙ not-false y g)
             where
-              go : (o : Option State) → state_of q ≡ o → goes_on o ≡ true → Running b doc used at r q (n + 1)
+              go : (o : Option State) → state_of q ≡ o → goes_on o ≡ true → Running b doc at r q (n + 1)
               go none e g = clash g refl
               go (some t) e g =
-                  let z : Next b doc used i (behind doc used i) = next_is b doc used l i h in
+                  let z : Next b doc i (behind doc i) = next_is b doc i h in
                   rw er (record {
                     here = z.here;
                     few = omega (arith, c.few, z.on);
@@ -127,7 +133,7 @@ module _ (b doc : List ℕ) (used at : ℕ) where
                   })
 
         pub running_other : {y z : Bool} → x ≡ false → y ≡ ends (tok_of (get_or doc i 0)) → y ≡ false → z ≡ text_tok (tok_of (get_or doc i 0)) → z ≡ false
-            → Running b doc used at (i + 1) run n
+            → Running b doc at (i + 1) run n
         running_other f ey g ez k =
             let t : Tok = tok_of (get_or doc i 0) in
             let same = no_child t (drop (suc i) d) (sym ex ∙ f) (sym ey ∙ g) (sym ez ∙ k) in
@@ -138,16 +144,16 @@ module _ (b doc : List ℕ) (used at : ℕ) where
               state = c.state;
               stands = c.stands;
               within = c.within;
-              left = next refl ∙ other b used c.state t i (drop (suc i) d) (sym ex ∙ f) (sym ey ∙ g) (sym ez ∙ k);
+              left = next refl ∙ other b end c.state t i (drop (suc i) d) (sym ex ∙ f) (sym ey ∙ g) (sym ez ∙ k);
             })
 
-      pub running_end : {y : Bool} {r : Stop} → y ≡ ends (tok_of (get_or doc i 0)) → y ≡ true → r ≡ stopped (ended b (state_of run)) i
-          → Walked (model_stop b used start zero at (drop at (toks (take used doc)))) (drop at (toks (take used doc))) (record { stop = r; children = n })
+      pub running_end : {y : Bool} {r : Result ℕ ℕ} → y ≡ ends (tok_of (get_or doc i 0)) → y ≡ true → r ≡ asked (ended b (state_of run)) n i
+          → r ≡ walked (model_stop b (length doc) start zero at (drop at (toks doc))) (drop at (toks doc))
       running_end ey t er = ending i (End ∷ drop (suc i) d) (here_is ((end_iff (get_or doc i 0)).0 (sym ey ∙ t))) refl refl er
 
       pub running_text : {z : Bool} → z ≡ text_tok (tok_of (get_or doc i 0)) → z ≡ true
-          → Walked (model_stop b used start zero at (drop at (toks (take used doc)))) (drop at (toks (take used doc))) (record { stop = At i; children = 0 })
-      running_text ez t = walked_at (model_stop b used start zero at (drop at d)) (drop at d) i (sym (next ((text_iff (get_or doc i 0)).0 (sym ez ∙ t))))
+          → Err i ≡ walked (model_stop b (length doc) start zero at (drop at (toks doc))) (drop at (toks doc))
+      running_text ez t = stops_here (next ((text_iff (get_or doc i 0)).0 (sym ez ∙ t)))
 
-      pub child_on : {r : ℕ} → r ≡ behind doc used i → used - r < used - i
-      child_on er = let z : Next b doc used i (behind doc used i) = next_is b doc used l i h in rw er (omega (arith, z.on))
+      pub child_on : {r : ℕ} → r ≡ behind doc i → length doc - r < length doc - i
+      child_on er = let z : Next b doc i (behind doc i) = next_is b doc i h in rw er (omega (arith, z.on))

@@ -14,8 +14,8 @@ closing b [] = []
 closing b (t ∷ d) = (b + close zero (t ∷ d)) ∷ closing (suc b) d
 
 -- the same at one place p, from what is known behind it: e is that of place p + 1, and `out` has those of the places after it
-abbrev pub closing_at : List ℕ → ℕ → ℕ → ℕ → Tok → ℕ
-closing_at out used p e t = cond (starts t) (cond (ltb (e + 1) used) (get_or out (e + 1) 0) used) (cond (closes_of zero t) p e)
+abbrev pub closing_at : List ℕ → ℕ → ℕ → Tok → ℕ
+closing_at out p e t = cond (starts t) (cond (ltb (e + 1) (length out)) (get_or out (e + 1) 0) (length out)) (cond (closes_of zero t) p e)
 
 -- ---- the laws of close
 
@@ -53,26 +53,26 @@ closing_at_lem b (t ∷ d) zero h = rw add-zero
 closing_at_lem b (t ∷ d) (suc p) h = closing_at_lem (suc b) d p (le_of_suc-le-suc h) ∙ rw (suc-add, add-suc)
 
 -- what `closes` wrote, at a place of the document, and for an element the place of its end
-module _ (d : List Tok) (used : ℕ) (e : length d ≡ used) (tail : List ℕ) {out : List ℕ} (eo : out ≡ closing 0 d ++ tail) where
-  pub closed_at : (p : ℕ) → p < used → get_or out p 0 ≡ p + close zero (drop p d)
+module _ (d : List Tok) (tail : List ℕ) {out : List ℕ} (eo : out ≡ closing 0 d ++ tail) where
+  pub closed_at : (p : ℕ) → p < length d → get_or out p 0 ≡ p + close zero (drop p d)
   closed_at p h =
       ap (λ (l : List ℕ). get_or l p 0) eo
       ∙ get_or-append (closing 0 d) tail 0 p (omega (arith, closing_length 0 d))
-      ∙ closing_at_lem 0 d p (omega arith)
+      ∙ closing_at_lem 0 d p h
       ∙ rw zero-add
 
 -- ---- what belongs at a place, as the code tells it
 
-module _ (out : List ℕ) (used p e t : ℕ) {y : Bool} (ey : y ≡ starts (tok_of t)) where
-  pub closing_next : y ≡ true → e + 1 < used → {r : ℕ} → r ≡ get_or out (e + 1) 0 → r ≡ closing_at out used p e (tok_of t)
-  closing_next a h er = rw (← ey, a, lt-ltb (e + 1) used h) er
+module _ (out : List ℕ) (p e t : ℕ) {y : Bool} (ey : y ≡ starts (tok_of t)) where
+  pub closing_next : y ≡ true → e + 1 < length out → {r : ℕ} → r ≡ get_or out (e + 1) 0 → r ≡ closing_at out p e (tok_of t)
+  closing_next a h er = rw (← ey, a, lt-ltb (e + 1) (length out) h) er
 
-  pub closing_past : y ≡ true → used ≤ e + 1 → used ≡ closing_at out used p e (tok_of t)
-  closing_past a h = rw (← ey, a, le-ltb (e + 1) used h)
+  pub closing_past : y ≡ true → length out ≤ e + 1 → length out ≡ closing_at out p e (tok_of t)
+  closing_past a h = rw (← ey, a, le-ltb (e + 1) (length out) h)
 
   module _ (a : y ≡ false) {z : Bool} (ez : z ≡ ends (tok_of t)) where
-    pub closing_end : z ≡ true → p ≡ closing_at out used p e (tok_of t)
+    pub closing_end : z ≡ true → p ≡ closing_at out p e (tok_of t)
     closing_end b = rw (← ey, a, ← ez, b)
 
-    pub closing_other : z ≡ false → e ≡ closing_at out used p e (tok_of t)
+    pub closing_other : z ≡ false → e ≡ closing_at out p e (tok_of t)
     closing_other b = rw (← ey, a, ← ez, b)

@@ -1,5 +1,5 @@
 -- The call's refusals in order, and its answer. Assumes nothing.
-use Rattle.std.specs.Prelude.{◌≡◌, Bool, true, false, not, ◌||◌, List, ℕ, ◌≤◌, ◌<◌, eqb, length, get_or}
+use Rattle.std.specs.Prelude.{◌≡◌, refl, Bool, true, false, Option, Some, None, Ok, Err, not, ◌||◌, List, ℕ, ◌≤◌, ◌<◌, eqb, length, get_or}
 use Rattle.std.proofs.Math.Path.{sym}
 use Rattle.std.proofs.Common.{◌∙◌, ap, ap₂, arith}
 use borrow.Author.Tests.{lt-ltb, le-ltb, not-true, not-false}
@@ -8,63 +8,63 @@ use Rattle.paper.specs.Basics.{most_elements, sequence_places}
 use Rattle.table_laws.specs.Parts.{table_parts}
 use Rattle.table.specs.Run.{ready_table}
 use Rattle.paper.specs.Rules.{of_table}
-use Rattle.paper.specs.Inclusion.{comparable, refused, answered, comparing, compare}
+use Rattle.paper.specs.Inclusion.{comparable, answered, comparing, compare}
 use Rattle.inclusion_laws.specs.Search.{searched}
 use Rattle.inclusion_laws.specs.Pairs.{pairs}
 use Rattle.inclusion_laws.proofs.Tables.{runnable}
 use Rattle.inclusion_laws.proofs.Theorems.{computed}
-use Rattle.compare.specs.declared.Compared.{Compared}
-use Rattle.breadth.specs.declared.Found.{Found}
+use Rattle.paper.specs.declared.Refusal.TheVariants.{Room, Place, Table, NotCompared}
 use Rattle.breadth.specs.Going.{Blocks}
 use Rattle.breadth.specs.Outcome.{found_of}
-use Rattle.compare.specs.Outcome.{outcome_of, refusal}
+use Rattle.compare.specs.Outcome.{outcome_of, compared_of}
 
 -- the tests before place k held
-module _ (old new : List ℕ) (e : ℕ) (s : List ℕ) {r : Compared} where
-  refuse : (k : ℕ) → r ≡ refusal k → outcome_of r s ≡ refused k s
-  refuse k d = ap (λ x. outcome_of x s) d
-
-  pub bad_old : {x : Bool} → x ≡ proper old → not x ≡ true → r ≡ refusal 13 → outcome_of r s ≡ compare old new e s
+module _ (old new : List ℕ) (e : ℕ) (s : List ℕ) where
+  pub bad_old : {x : Bool} → x ≡ proper old → not x ≡ true → outcome_of (compared_of (Err Table)) s ≡ compare old new e s
   unfolding compare comparing
-  bad_old {x} p t d = refuse 13 d ∙ (rw (sym p ∙ not-true x t))
+  bad_old {x} p t = rw (sym p ∙ not-true x t)
 
-  pub bad_new : {x y : Bool} → x ≡ proper old → not x ≡ false → y ≡ proper new → not y ≡ true → r ≡ refusal 13 → outcome_of r s ≡ compare old new e s
+  pub bad_new : {x y : Bool} → x ≡ proper old → not x ≡ false → y ≡ proper new → not y ≡ true → outcome_of (compared_of (Err Table)) s ≡ compare old new e s
   unfolding compare comparing
-  bad_new {x} {y} p t q u d = refuse 13 d ∙ (rw (sym p ∙ not-false x t, sym q ∙ not-true y u))
+  bad_new {x} {y} p t q u = rw (sym p ∙ not-false x t, sym q ∙ not-true y u)
 
   module _ (p : proper old ≡ true) (q : proper new ≡ true) where
-    pub not_in_old : get_or old 0 0 ≤ e → r ≡ refusal 6 → outcome_of r s ≡ compare old new e s
+    pub not_in_old : get_or old 0 0 ≤ e → outcome_of (compared_of (Err Place)) s ≡ compare old new e s
     unfolding compare comparing
-    not_in_old h d = refuse 6 d ∙ (rw (p, q, le-ltb e (get_or old 0 0) h))
+    not_in_old h = rw (p, q, le-ltb e (get_or old 0 0) h)
 
-    pub not_in_new : e < get_or old 0 0 → get_or new 0 0 ≤ e → r ≡ refusal 6 → outcome_of r s ≡ compare old new e s
+    pub not_in_new : e < get_or old 0 0 → get_or new 0 0 ≤ e → outcome_of (compared_of (Err Place)) s ≡ compare old new e s
     unfolding compare comparing
-    not_in_new h k d = refuse 6 d ∙ (rw (p, q, lt-ltb e (get_or old 0 0) h, le-ltb e (get_or new 0 0) k))
+    not_in_new h k = rw (p, q, lt-ltb e (get_or old 0 0) h, le-ltb e (get_or new 0 0) k)
 
     module _ (h : e < get_or old 0 0) (k : e < get_or new 0 0) where
-      pub kind_of_old : {x : Bool} → x ≡ comparable (of_table old) e → not x ≡ true → r ≡ refusal 16 → outcome_of r s ≡ compare old new e s
+      pub kind_of_old : {x : Bool} → x ≡ comparable (of_table old) e → not x ≡ true → outcome_of (compared_of (Err NotCompared)) s ≡ compare old new e s
       unfolding compare comparing
-      kind_of_old {x} c t d = refuse 16 d ∙ (rw (p, q, lt-ltb e (get_or old 0 0) h, lt-ltb e (get_or new 0 0) k, ← c, not-true x t))
+      kind_of_old {x} c t = rw (p, q, lt-ltb e (get_or old 0 0) h, lt-ltb e (get_or new 0 0) k, ← c, not-true x t)
 
-      pub kind_of_new : {x y : Bool} → x ≡ comparable (of_table old) e → not x ≡ false → y ≡ comparable (of_table new) e → not y ≡ true → r ≡ refusal 16
-          → outcome_of r s ≡ compare old new e s
+      pub kind_of_new : {x y : Bool} → x ≡ comparable (of_table old) e → not x ≡ false → y ≡ comparable (of_table new) e → not y ≡ true
+          → outcome_of (compared_of (Err NotCompared)) s ≡ compare old new e s
       unfolding compare comparing
-      kind_of_new {x} {y} c t f u d = refuse 16 d ∙ (rw (p, q, lt-ltb e (get_or old 0 0) h, lt-ltb e (get_or new 0 0) k, ← c, not-false x t, ← f, not-true y u))
+      kind_of_new {x} {y} c t f u = rw (p, q, lt-ltb e (get_or old 0 0) h, lt-ltb e (get_or new 0 0) k, ← c, not-false x t, ← f, not-true y u)
 
       module _ {x y : Bool} (c : x ≡ comparable (of_table old) e) (t : not x ≡ false) (f : y ≡ comparable (of_table new) e) (u : not y ≡ false) where
-        pub too_short : length s < sequence_places → r ≡ refusal 5 → outcome_of r s ≡ compare old new e s
+        pub too_short : length s < sequence_places → outcome_of (compared_of (Err Room)) s ≡ compare old new e s
         unfolding compare comparing
-        too_short l d = refuse 5 d ∙ (rw (p, q, lt-ltb e (get_or old 0 0) h, lt-ltb e (get_or new 0 0) k, ← c, not-false x t, ← f, not-false y u, lt-ltb (length s) sequence_places l))
+        too_short l = rw (p, q, lt-ltb e (get_or old 0 0) h, lt-ltb e (get_or new 0 0) k, ← c, not-false x t, ← f, not-false y u, lt-ltb (length s) sequence_places l)
+
+same : (o : Option ℕ) {s : List ℕ} → outcome_of (compared_of (Ok o)) s ≡ found_of o s
+same None = refl
+same (Some n) = refl
 
 -- nothing is refused: what the search finds
 pub found_out : (old new : List ℕ) (e : ℕ) (s : List ℕ) → proper old ≡ true → proper new ≡ true → e < get_or old 0 0 → e < get_or new 0 0
     → {x y : Bool} → x ≡ comparable (of_table old) e → not x ≡ false → y ≡ comparable (of_table new) e → not y ≡ false
-    → {a b after : List ℕ} {f : Found} → a ≡ block old e → b ≡ block new e → sequence_places ≤ length s
+    → {a b after : List ℕ} (f : Option ℕ) → a ≡ block old e → b ≡ block new e → sequence_places ≤ length s
     → found_of f after ≡ answered (searched (pairs a b) (get_or old 0 0) sequence_places) s
-    → outcome_of (record { number = 0; takes_all = f.takes_all; length = f.length }) after ≡ compare old new e s
+    → outcome_of (compared_of (Ok f)) after ≡ compare old new e s
 unfolding compare comparing
-found_out old new e s p q h k {x} {y} c t f u i j l d =
-    d ∙ ap₂ (λ a b. answered (searched (pairs a b) (get_or old 0 0) sequence_places) s) i j ∙ ap (λ o. answered o s) (sym (computed old new e p q h k))
+found_out old new e s p q h k {x} {y} c t f u o i j l d =
+    same o ∙ d ∙ ap₂ (λ a b. answered (searched (pairs a b) (get_or old 0 0) sequence_places) s) i j ∙ ap (λ o. answered o s) (sym (computed old new e p q h k))
     ∙ (rw (p, q, lt-ltb e (get_or old 0 0) h, lt-ltb e (get_or new 0 0) k, ← c, not-false x t, ← f, not-false y u, le-ltb (length s) sequence_places l))
 
 -- what the search asks

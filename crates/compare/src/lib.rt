@@ -8,10 +8,10 @@ ghost use Rattle.paper.specs.Table.{proper};
 ghost use Rattle.paper.specs.Rules.{of_table};
 ghost use Rattle.paper.specs.Inclusion;
 ghost use Rattle.paper.specs.Inclusion.{comparable};
-ghost use Rattle.compare.specs.Outcome.{outcome_of, refusal};
+ghost use Rattle.compare.specs.Outcome.{outcome_of, compared_of};
 
 use breadth::search;
-use paper::{DONE, EMPTY, KIND_AT, MODEL, NOT_COMPARED, PLACE, ROOM, SEQUENCE_PLACES, TABLE};
+use paper::{DONE, EMPTY, KIND_AT, MODEL, Refusal, SEQUENCE_PLACES};
 use proper::proper;
 use table::{block_of, cell};
 
@@ -24,14 +24,21 @@ pub struct Compared {
     pub length: u32,
 }
 
-// A call that is refused.
-fn refused(number: u32) -> Compared
-    ensures { result ≡ refusal number }
-{
-    Compared {
-        number,
-        takes_all: 0,
-        length: 0,
+// What is found, or why the call is refused.
+impl From<Result<Option<u32>, Refusal>> for Compared {
+    ghost from_gives = { λ found result. result ≡ compared_of found };
+
+    fn from(found: Result<Option<u32>, Refusal>) -> Compared {
+        let (number, takes_all, length) = match found {
+            Ok(None) => (DONE, 1, 0),
+            Ok(Some(length)) => (DONE, 0, length),
+            Err(refusal) => (refusal.number(), 0, 0),
+        };
+        Compared {
+            number,
+            takes_all,
+            length,
+        }
     }
 }
 
@@ -45,36 +52,44 @@ fn is_compared(table: &[u64], e: usize) -> bool
 }
 
 // "The answer is yes exactly if the new one takes every child sequence the old one takes. Otherwise it writes the shortest lost sequence, of
-// equals the lowest by element numbers from the left."
-pub fn compare(old: &[u64], new: &[u64], element: u32, sequence: &mut [u32]) -> Compared
-    ensures { outcome_of result sequence.new ≡ Inclusion.compare old.now new.now element sequence.old }
+// equals the lowest by element numbers from the left." The length of the lost sequence, or none.
+fn lost(
+    old: &[u64],
+    new: &[u64],
+    element: u32,
+    sequence: &mut [u32],
+) -> Result<Option<u32>, Refusal>
+    ensures { outcome_of (compared_of result) sequence.new ≡ Inclusion.compare old.now new.now element sequence.old }
 {
     if !proper(old) {
-        return refused(TABLE);
+        return Err(Refusal::Table);
     }
     if !proper(new) {
-        return refused(TABLE);
+        return Err(Refusal::Table);
     }
     if element as u64 >= old[0] {
-        return refused(PLACE);
+        return Err(Refusal::Place);
     }
     if element as u64 >= new[0] {
-        return refused(PLACE);
+        return Err(Refusal::Place);
     }
     let e = element as usize;
     if !is_compared(old, e) {
-        return refused(NOT_COMPARED);
+        return Err(Refusal::NotCompared);
     }
     if !is_compared(new, e) {
-        return refused(NOT_COMPARED);
+        return Err(Refusal::NotCompared);
     }
     if sequence.len() < SEQUENCE_PLACES {
-        return refused(ROOM);
+        return Err(Refusal::Room);
     }
     let found = search(block_of(old, e), block_of(new, e), old[0] as u32, sequence);
-    Compared {
-        number: DONE,
-        takes_all: found.takes_all,
-        length: found.length,
-    }
+    Ok(found)
+}
+
+// An element's content in two tables, compared.
+pub fn compare(old: &[u64], new: &[u64], element: u32, sequence: &mut [u32]) -> Compared
+    ensures { outcome_of result sequence.new ≡ Inclusion.compare old.now new.now element sequence.old }
+{
+    Compared::from(lost(old, new, element, sequence))
 }

@@ -1,11 +1,12 @@
 -- What each way out of `read` gives. Assumes nothing.
 use mathlib.Core.Path.{◌≡◌, refl, sym, ap, ap₂, ◌∙◌, subst}
-use mathlib.Core.Bool.{Bool, true, false, not, ◌&&◌, ◌||◌}
+use Rattle.std.specs.Prelude.{Option, Some, None}
+use mathlib.Core.Bool.{Bool, true, false, ◌&&◌, ◌||◌}
 use mathlib.Core.List.{List, ◌∷◌, ◌++◌, append_assoc}
 use Prim.Native.Nat.{ℕ, ◌+◌, ◌-◌, ◌≤◌, ◌<◌}
 use native.Mathlib.Omega.{arith}
 use native.Mathlib.Decide.{ℕ_discrete}
-use borrow.Author.Tests.{not-true, not-false, eq-eqb, ne_eqb}
+use borrow.Author.Tests.{eq-eqb, ne_eqb}
 use lib.Dec.{eqb}
 use lib.ListN.{length, drop, get_or, length-append, length-drop}
 use lib.Bits.{bit_or}
@@ -14,7 +15,6 @@ use Rattle.paper.specs.Expressions.{Expr, name, seq, alt, opt, star, plus, count
 use Rattle.paper.specs.Sets.{when, first_word, last_word}
 use Rattle.paper.specs.Schema.{symbols_of}
 use Rattle.basic_laws.specs.Lists.{drop_next}
-use Rattle.basic_laws.specs.Bools.{clash}
 use Rattle.set_walks.specs.Joined.{joined}
 use Rattle.model_parts.specs.declared.Part.{Part}
 use Rattle.content_laws.specs.Names.{count_some}
@@ -24,11 +24,11 @@ use Rattle.content.specs.Linked.{linked, linked_name, linked_opt, linked_alt, li
 use Rattle.model_parts.specs.Parts.{single, sequence, choice, also}
 use Rattle.content.specs.Parts.{Found, Nothing, Got}
 
-lost : {s : List ℕ} {at p : ℕ} {f g : List ℕ} {r : Part} → r.ok ≡ false → Nothing (drop at s) p → Got s at p f g r
-lost o h = record { found = λ e. clash e o; lost = λ e. h }
+lost : {s : List ℕ} {at p : ℕ} {f g : List ℕ} → Nothing (drop at s) p → Got s at p f g None
+lost h = record { found = λ a e. cc; lost = λ e. h }
 
-found : {s : List ℕ} {at p : ℕ} {f g : List ℕ} {q r : Part} → r ≡ q → q.ok ≡ true → Found s at p f g q → Got s at p f g r
-found w o h = rw w (record { found = λ e. h; lost = λ e. clash o e })
+found : {s : List ℕ} {at p : ℕ} {f g : List ℕ} {q r : Part} → r ≡ q → Found s at p f g q → Got s at p f g (Some r)
+found {s} {at} {p} {f} {g} {q} {r} w h = record { found = λ a e. let d : q ≡ a = cc in subst (Found s at p f g) d h; lost = λ e. cc }
 
 -- an expression takes symbols
 falls : {s : List ℕ} {at p : ℕ} {f g : List ℕ} {r : Part} → Found s at p f g r → length s - r.next < length s - at
@@ -38,35 +38,35 @@ falls {s} {at} {r = r} m =
 
 -- ---- nothing
 
-pub got_end : {s : List ℕ} {at p : ℕ} {f g : List ℕ} {r : Part} → length s ≤ at → r.ok ≡ false → Got s at p f g r
-got_end {s} {at} h o = lost o λ e t c l.
+pub got_end : {s : List ℕ} {at p : ℕ} {f g : List ℕ} → length s ≤ at → Got s at p f g None
+got_end {s} {at} h = lost λ e t c l.
     omega (arith, ap length c, length-append (symbols_of e) t, length-drop at s, symbols_some e)
 
-pub got_full : {s : List ℕ} {at p : ℕ} {f g : List ℕ} {r : Part} → most_names ≤ p → r.ok ≡ false → Got s at p f g r
-got_full h o = lost o (λ e t c l. omega (arith, count_some e))
+pub got_full : {s : List ℕ} {at p : ℕ} {f g : List ℕ} → most_names ≤ p → Got s at p f g None
+got_full h = lost (λ e t c l. omega (arith, count_some e))
 
-module _ {s : List ℕ} {at p : ℕ} {f g : List ℕ} {a : Part} (h : at < length s) (x : Got s (at + 1) p f g a) where
-  pub got_no_part : {k : List ℕ} {r : Part} → get_or s at 0 < 5 → not a.ok ≡ true → r.ok ≡ false → Got s at p f k r
-  got_no_part op t o = lost o λ e u c l.
+module _ {s : List ℕ} {at p : ℕ} {f g : List ℕ} {o : Option Part} (h : at < length s) (x : Got s (at + 1) p f g o) where
+  pub got_no_part : {k : List ℕ} → get_or s at 0 < 5 → o ≡ None → Got s at p f k None
+  got_no_part op t = lost λ e u c l.
       let (d, v, i, n) = part_of e (get_or s at 0) (drop (at + 1) s) u (sym (drop_next s at h) ∙ c) op in
-      x.lost (not-true a.ok t) d v i (omega arith)
+      x.lost t d v i (omega arith)
 
-  pub got_no_second : {k m : List ℕ} {b r : Part} → (get_or s at 0 ≡ 2 → ⊥) → get_or s at 0 ≤ 2 → not a.ok ≡ false
-      → Got s a.next a.places g k b → not b.ok ≡ true → r.ok ≡ false → Got s at p f m r
-  got_no_second {b = b} two op t y u o = lost o λ e v c l.
-      let m = x.found (not-false a.ok t) in
+  pub got_no_second : {k m : List ℕ} {a : Part} {r : Option Part} → (get_or s at 0 ≡ 2 → ⊥) → get_or s at 0 ≤ 2 → o ≡ Some a
+      → Got s a.next a.places g k r → r ≡ None → Got s at p f m None
+  got_no_second {a = a} two op t y u = lost λ e v c l.
+      let m = x.found a t in
       let (d, d', i, n) = parts_of e (get_or s at 0) (drop (at + 1) s) v (sym (drop_next s at h) ∙ c) (omega arith) in
       let same : d ≡ m.expr = same_expr d m.expr _ _ (sym i ∙ m.here) in
       let rest : symbols_of d' ++ v ≡ drop a.next s = same_rest d m.expr _ _ (sym i ∙ m.here) in
-      y.lost (not-true b.ok u) d' v (sym rest) (omega (arith, ap count same, m.places))
+      y.lost u d' v (sym rest) (omega (arith, ap count same, m.places))
 
 -- ---- a name
 
-pub got_name : {s : List ℕ} {at p : ℕ} {f : List ℕ} {r : Part} → at < length s → 5 ≤ get_or s at 0 → p < most_names → r ≡ single at p → Got s at p f f r
+pub got_name : {s : List ℕ} {at p : ℕ} {f : List ℕ} {r : Part} → at < length s → 5 ≤ get_or s at 0 → p < most_names → r ≡ single at p → Got s at p f f (Some r)
 got_name {s} {at} {p} {f} h op l w =
     let a : ℕ = get_or s at 0 - 5 in
     let i : get_or s at 0 ≡ 5 + a = omega arith in
-    found w refl (record {
+    found w (record {
       expr = name a;
       here = drop_next s at h ∙ ap (λ x. x ∷ drop (at + 1) s) i;
       within = omega arith;
@@ -80,14 +80,14 @@ got_name {s} {at} {p} {f} h op l w =
 
 -- ---- one part
 
-module _ {s : List ℕ} {at p : ℕ} {f g : List ℕ} {a : Part} (h : at < length s) (x : Got s (at + 1) p f g a) (t : not a.ok ≡ false) where
+module _ {s : List ℕ} {at p : ℕ} {f g : List ℕ} {o : Option Part} {a : Part} (h : at < length s) (x : Got s (at + 1) p f g o) (t : o ≡ Some a) where
   pub part_falls : {n : ℕ} → length s - at ≡ n → length s - a.next < n
-  part_falls e = omega (arith, falls (x.found (not-false a.ok t)))
+  part_falls e = omega (arith, falls (x.found a t))
 
-  pub got_optional : {r : Part} → get_or s at 0 ≡ 2 → r ≡ also true a → Got s at p f g r
+  pub got_optional : {r : Part} → get_or s at 0 ≡ 2 → r ≡ also true a → Got s at p f g (Some r)
   got_optional op w =
-      let m = x.found (not-false a.ok t) in
-      found w refl (record {
+      let m = x.found a t in
+      found w (record {
         expr = opt m.expr;
         here = drop_next s at h ∙ ap₂ ◌∷◌ op m.here;
         within = m.within;
@@ -99,20 +99,20 @@ module _ {s : List ℕ} {at p : ℕ} {f g : List ℕ} {a : Part} (h : at < lengt
         follow = m.follow ∙ linked_opt p m.expr f;
       })
 
-  pub got_repeated : {k : List ℕ} {r : Part} → 2 < get_or s at 0 → get_or s at 0 < 5 → k ≡ joined a.last a.first g → r ≡ also (eqb (get_or s at 0) 3) a → Got s at p f k r
+  pub got_repeated : {k : List ℕ} {r : Part} → 2 < get_or s at 0 → get_or s at 0 < 5 → k ≡ joined a.last a.first g → r ≡ also (eqb (get_or s at 0) 3) a → Got s at p f k (Some r)
   got_repeated {k} {r} low high j w = elim (ℕ_discrete (get_or s at 0) 3) [
     | yes op ↦ zero_or_more op (w ∙ ap (λ b. also b a) (eq-eqb (get_or s at 0) 3 op))
     | no op ↦ one_or_more (omega arith) (w ∙ ap (λ b. also b a) (ne_eqb (get_or s at 0) 3 op))
   ]
     where
       m : Found s (at + 1) p f g a
-      m = x.found (not-false a.ok t)
+      m = x.found a t
 
       links : k ≡ joined (last_word p m.expr) (first_word p m.expr) (linked p m.expr f)
       links = j ∙ cc (m.last, m.first, m.follow)
 
-      zero_or_more : get_or s at 0 ≡ 3 → r ≡ also true a → Got s at p f k r
-      zero_or_more op w = found w refl (record {
+      zero_or_more : get_or s at 0 ≡ 3 → r ≡ also true a → Got s at p f k (Some r)
+      zero_or_more op w = found w (record {
         expr = star m.expr;
         here = drop_next s at h ∙ ap₂ ◌∷◌ op m.here;
         within = m.within;
@@ -124,8 +124,8 @@ module _ {s : List ℕ} {at p : ℕ} {f g : List ℕ} {a : Part} (h : at < lengt
         follow = links ∙ linked_round p m.expr (star m.expr) f (λ k. refl);
       })
 
-      one_or_more : get_or s at 0 ≡ 4 → r ≡ also false a → Got s at p f k r
-      one_or_more op w = found w refl (record {
+      one_or_more : get_or s at 0 ≡ 4 → r ≡ also false a → Got s at p f k (Some r)
+      one_or_more op w = found w (record {
         expr = plus m.expr;
         here = drop_next s at h ∙ ap₂ ◌∷◌ op m.here;
         within = m.within;
@@ -139,17 +139,17 @@ module _ {s : List ℕ} {at p : ℕ} {f g : List ℕ} {a : Part} (h : at < lengt
 
 -- ---- two parts
 
-module _ {s : List ℕ} {at p : ℕ} {f g k : List ℕ} {a b : Part} (h : at < length s) (x : Got s (at + 1) p f g a) (t : not a.ok ≡ false)
-    (y : Got s a.next a.places g k b) (u : not b.ok ≡ false)
+module _ {s : List ℕ} {at p : ℕ} {f g k : List ℕ} {o o' : Option Part} {a b : Part} (h : at < length s) (x : Got s (at + 1) p f g o) (t : o ≡ Some a)
+    (y : Got s a.next a.places g k o') (u : o' ≡ Some b)
   where
     first_part : Found s (at + 1) p f g a
-    first_part = x.found (not-false a.ok t)
+    first_part = x.found a t
 
     abbrev d : Expr
     d = first_part.expr
 
     second_part : Found s a.next (p + count d) g k b
-    second_part = subst (λ q. Found s a.next q g k b) first_part.places (y.found (not-false b.ok u))
+    second_part = subst (λ q. Found s a.next q g k b) first_part.places (y.found b u)
 
     abbrev d' : Expr
     d' = second_part.expr
@@ -160,8 +160,8 @@ module _ {s : List ℕ} {at p : ℕ} {f g k : List ℕ} {a b : Part} (h : at < l
     both_follow : k ≡ linked (p + count d) d' (linked p d f)
     both_follow = second_part.follow ∙ ap (linked (p + count d) d') first_part.follow
 
-    pub got_choice : {r : Part} → get_or s at 0 ≡ 1 → r ≡ choice a b → Got s at p f k r
-    got_choice op w = found w refl (record {
+    pub got_choice : {r : Part} → get_or s at 0 ≡ 1 → r ≡ choice a b → Got s at p f k (Some r)
+    got_choice op w = found w (record {
       expr = alt d d';
       here = drop_next s at h ∙ ap₂ ◌∷◌ op both_here;
       within = second_part.within;
@@ -174,8 +174,8 @@ module _ {s : List ℕ} {at p : ℕ} {f g k : List ℕ} {a b : Part} (h : at < l
     })
 
     pub got_sequence : {l : List ℕ} {r : Part} → (get_or s at 0 ≡ 1 → ⊥) → (get_or s at 0 ≡ 2 → ⊥) → get_or s at 0 ≤ 2
-        → l ≡ joined a.last b.first k → r ≡ sequence a b → Got s at p f l r
-    got_sequence one two op j w = found w refl (record {
+        → l ≡ joined a.last b.first k → r ≡ sequence a b → Got s at p f l (Some r)
+    got_sequence one two op j w = found w (record {
       expr = seq d d';
       here = drop_next s at h ∙ ap₂ ◌∷◌ (omega arith) both_here;
       within = second_part.within;

@@ -1,5 +1,5 @@
 -- What is given for the symbols of a model: its sets, or that they are no expression of at most 64 names. Assumes nothing.
-use Rattle.std.specs.Prelude.{◌≡◌, refl, Bool, true, false, List, ◌∷◌, ◌++◌, map, ℕ, zero, suc, ◌+◌, ◌-◌, ◌≤◌, T, length, replicate}
+use Rattle.std.specs.Prelude.{◌≡◌, refl, Bool, true, false, Option, Some, None, List, ◌∷◌, ◌++◌, map, ℕ, zero, suc, ◌+◌, ◌-◌, ◌≤◌, T, length, replicate}
 use Rattle.std.proofs.Common.{sym, ap, ap₂, ◌∙◌, arith}
 use Rattle.std.proofs.Math.Option.{some}
 use Rattle.std.proofs.lemmas.List.{length-map}
@@ -19,9 +19,6 @@ use Rattle.content.specs.Linked.{or_from, linked}
 abbrev pub follow_words : Expr → List ℕ
 follow_words e = pad most_names (map (follow_word 0 e) (from 0 (count e)))
 
-abbrev pub no_model : Model
-no_model = record { ok = false; count = 0; nullable = false; first = 0; last = 0 }
-
 -- the symbols are one expression: its sets are in r, and its follow sets in g
 pub record ModelOf (s g : List ℕ) (r : Model) : Type 0 where
   pub expr : Expr
@@ -34,14 +31,13 @@ pub record ModelOf (s g : List ℕ) (r : Model) : Type 0 where
   pub follow : g ≡ follow_words expr
 
 -- the symbols are none
-pub record NoModel (s g : List ℕ) (r : Model) : Type 0 where
+pub record NoModel (s g : List ℕ) : Type 0 where
   pub never : (e : Expr) → expr_of s ≡ some e → count e ≤ most_names → ⊥
-  pub empty : r ≡ no_model
   pub follow : g ≡ replicate most_names 0
 
-pub record Modelled (s g : List ℕ) (r : Model) : Type 0 where
-  pub found : r.ok ≡ true → ModelOf s g r
-  pub none : r.ok ≡ false → NoModel s g r
+pub record Modelled (s g : List ℕ) (r : Option Model) : Type 0 where
+  pub found : (m : Model) → r ≡ Some m → ModelOf s g m
+  pub none : r ≡ None → NoModel s g
 
 -- ---- the follow sets over zeros
 

@@ -1,5 +1,5 @@
 -- What the reader gives for an expression at a place of the symbols. Assumes nothing.
-use Rattle.std.specs.Prelude.{◌≡◌, true, false, List, ◌++◌, ℕ, ◌+◌, ◌≤◌, length, drop}
+use Rattle.std.specs.Prelude.{◌≡◌, Option, Some, None, List, ◌++◌, ℕ, ◌+◌, ◌≤◌, length, drop}
 use Rattle.paper.specs.Basics.{most_names}
 use Rattle.paper.specs.Expressions.{Expr, count}
 use Rattle.paper.specs.Sets.{nullable, first_word, last_word}
@@ -23,6 +23,6 @@ pub record Found (s : List ℕ) (at p : ℕ) (f g : List ℕ) (r : Part) : Type 
 abbrev pub Nothing : List ℕ → ℕ → Type 0
 Nothing l p = (e : Expr) (t : List ℕ) → l ≡ symbols_of e ++ t → p + count e ≤ most_names → ⊥
 
-pub record Got (s : List ℕ) (at p : ℕ) (f g : List ℕ) (r : Part) : Type 0 where
-  pub found : r.ok ≡ true → Found s at p f g r
-  pub lost : r.ok ≡ false → Nothing (drop at s) p
+pub record Got (s : List ℕ) (at p : ℕ) (f g : List ℕ) (r : Option Part) : Type 0 where
+  pub found : (a : Part) → r ≡ Some a → Found s at p f g a
+  pub lost : r ≡ None → Nothing (drop at s) p

@@ -7,9 +7,9 @@
 ghost use Rattle.std.specs.Prelude.{◌≡◌, length, replicate};
 ghost use Rattle.paper.specs.Basics.{most_names};
 ghost use Rattle.content.specs.Parts.{Got};
-ghost use Rattle.content.specs.Model.{Modelled, no_model};
+ghost use Rattle.content.specs.Model.{Modelled};
 
-use model_parts::{Part, either, in_sequence, nothing, one_name, with_none};
+use model_parts::{Part, either, in_sequence, one_name, with_none};
 use paper::MOST_NAMES;
 use set_walks::connect;
 
@@ -24,90 +24,62 @@ const NAMED: u8 = paper::NAMED as u8;
 
 // The expression at a place of the symbols, with its occurrences numbered from p on. Its follow sets go into the words of
 // `follow`, word k for occurrence k. Both calls have fewer symbols left.
-fn read(s: &[u8], at: usize, p: usize, follow: &mut [u64]) -> Part
+fn read(s: &[u8], at: usize, p: usize, follow: &mut [u64]) -> Option<Part>
     requires { length follow.old ≡ most_names }
     ensures { Got s.now at p follow.old follow.new result }
 {
     if at >= s.len() {
-        return nothing();
+        return None;
     }
     let symbol = s[at];
     if symbol >= NAMED {
         if p >= MOST_NAMES {
-            return nothing();
+            return None;
         }
-        return one_name(at, p);
+        return Some(one_name(at, p));
     }
-    let a = read(s, at + 1, p, follow);
-    if !a.ok {
-        return nothing();
-    }
+    let a = read(s, at + 1, p, follow)?;
     if symbol == OPTIONAL {
-        return with_none(true, a);
+        return Some(with_none(true, a));
     }
     if symbol > OPTIONAL {
         connect(follow, a.last, a.first);
-        return with_none(symbol == ZERO_OR_MORE, a);
+        return Some(with_none(symbol == ZERO_OR_MORE, a));
     }
-    let b = read(s, a.next, a.places, follow);
-    if !b.ok {
-        return nothing();
-    }
+    let b = read(s, a.next, a.places, follow)?;
     if symbol == CHOICE {
-        return either(a, b);
+        return Some(either(a, b));
     }
     connect(follow, a.last, b.first);
-    in_sequence(a, b)
+    Some(in_sequence(a, b))
 }
 
-// A model that was read, if `ok`: how many occurrences there are, whether no child at all matches, and the sets of first and
-// last occurrences.
+// A model that was read: how many occurrences there are, whether no child at all matches, and the sets of first and last
+// occurrences.
 #[derive(Clone, Copy)]
 pub struct Model {
-    pub ok: bool,
     pub count: usize,
     pub nullable: bool,
     pub first: u64,
     pub last: u64,
 }
 
-// There is no model. The words of `follow` are made 0.
-fn no_model(follow: &mut [u64]) -> Model
-    requires { length follow.old ≡ most_names }
-    ensures { (result ≡ no_model) × (follow.new ≡ replicate most_names 0) }
-{
-    let mut k: usize = 0;
-    while k < follow.len() {
-        follow[k] = 0;
-        k += 1;
-    }
-    Model {
-        ok: false,
-        count: 0,
-        nullable: false,
-        first: 0,
-        last: 0,
-    }
-}
-
 // The model that the symbols are, if they are exactly one expression and at most 64 names occur in it. The words of `follow`,
-// 64 zeros, become its follow sets.
-pub fn read_model(s: &[u8], follow: &mut [u64]) -> Model
+// 64 zeros, become its follow sets; where there is no model they are zeros again.
+pub fn read_model(s: &[u8], follow: &mut [u64]) -> Option<Model>
     requires { follow.old ≡ replicate most_names 0 }
     ensures { Modelled s.now follow.new result }
 {
-    let whole = read(s, 0, 0, follow);
-    if !whole.ok {
-        return no_model(follow);
-    }
-    if whole.next != s.len() {
-        return no_model(follow);
-    }
-    Model {
-        ok: true,
-        count: whole.places,
-        nullable: whole.nullable,
-        first: whole.first,
-        last: whole.last,
+    match read(s, 0, 0, follow) {
+        Some(whole) if whole.next == s.len() => Some(Model {
+            count: whole.places,
+            nullable: whole.nullable,
+            first: whole.first,
+            last: whole.last,
+        }),
+        _ => {
+            follow.fill(0);
+            None
+        }
     }
 }

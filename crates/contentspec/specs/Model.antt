@@ -1,7 +1,7 @@
 -- A content model in a block. Assumes nothing.
-use Rattle.std.specs.Prelude.{◌≡◌, refl, Bool, true, false, cond, not, List, ◌++◌, map, ℕ, ◌+◌, ◌≤◌, leb, length, take, drop, set, replicate}
+use Rattle.std.specs.Prelude.{◌≡◌, refl, Result, Ok, Err, Bool, true, false, Option, Some, None, cond, not, List, ◌++◌, map, ℕ, ◌+◌, ◌≤◌, leb, length, take, drop, set, replicate}
 use Rattle.std.proofs.Common.{sym, ap, ◌∙◌, append-nil, arith, leb-true, le-leb, length-append, length-take, length-drop, take_at, drop_at, take_all}
-use Rattle.std.proofs.Math.Option.{Option, none, some}
+use Rattle.std.proofs.Math.Option.{Option as Maybe, none, some}
 use Rattle.std.proofs.lemmas.Bool.{not-true, not-false}
 use borrow.Rule.Slice.PartMut.{put_mid}
 use mir.Val.{bool_byte}
@@ -13,6 +13,9 @@ use Rattle.paper.specs.Expressions.{Expr, names, count}
 use Rattle.paper.specs.Sets.{nullable, ambiguous, first_word, last_word, follow_word}
 use Rattle.paper.specs.Schema.{expr_of, model, stop, ok, pure, refuse, modelled}
 use Rattle.paper.specs.Table.{block_length, count_at, no_child_at, first_at, last_at, names_at, follow_at, content_numbers}
+use Rattle.paper.specs.Codes.{number_of}
+use Rattle.paper.specs.declared.Refusal.{Refusal}
+use Rattle.paper.specs.declared.Refusal.TheVariants.{Schema, Ambiguous}
 use Rattle.content.specs.declared.Model.{Model}
 use Rattle.paper_laws.specs.Basics.{length_pad}
 use Rattle.content.specs.Model.{follow_words, ModelOf, NoModel, Modelled, length_words}
@@ -34,10 +37,13 @@ pub record Holds (s block : List ℕ) : Type 0 where
   pub reads : (t : List ℕ) → modelled (expr_of s) t ≡ ok (model expr) t
   pub cells : block ≡ replicate count_at 0 ++ content_numbers (model expr)
 
--- 0 and the model is taken, or the number of the refusal
-pub record ModelIn (s block : List ℕ) (r : ℕ) : Type 0 where
-  pub took : r ≡ 0 → Holds s block
-  pub refused : (r ≡ 0 → ⊥) → (t : List ℕ) → modelled (expr_of s) t ≡ stop r
+-- they are none that is taken
+pub record NotTaken (s : List ℕ) (e : Refusal) : Type 0 where
+  pub refused : (t : List ℕ) → modelled (expr_of s) t ≡ stop (number_of e)
+
+abbrev pub ModelIn : (s block : List ℕ) → Result Unit Refusal → Type 0
+ModelIn s block (Ok x) = Holds s block
+ModelIn s block (Err e) = NotTaken s e
 
 -- ---- the block as the calls leave it
 
@@ -65,13 +71,13 @@ pub zeros_long : {b : List ℕ} → b ≡ replicate block_length 0 → block_len
 zeros_long {b} z = rw z (omega arith)
 
 -- a test for no model
-pub model_none : {s g : List ℕ} {r : Model} (b : List ℕ) → Modelled s g r → not r.ok ≡ true → ModelIn s b 2
-model_none {s} {g} {r} b m n = record { took = λ z. absurd (omega arith); refused = λ z t. go t (expr_of s) refl }
+pub model_none : {s g : List ℕ} {o : Option Model} → Modelled s g o → o ≡ None → NotTaken s Schema
+model_none {s} {g} m n = record { refused = λ t. go t (expr_of s) refl }
   where
-    lost : NoModel s g r
-    lost = m.none (not-true r.ok n)
+    lost : NoModel s g
+    lost = m.none n
 
-    go : (t : List ℕ) (o : Option Expr) → expr_of s ≡ o → modelled o t ≡ stop 2
+    go : (t : List ℕ) (o : Maybe Expr) → expr_of s ≡ o → modelled o t ≡ stop 2
     go t none p = refl
     go t (some e) p = by (leb (count e) most_names) refl
       where
@@ -79,9 +85,9 @@ model_none {s} {g} {r} b m n = record { took = λ z. absurd (omega arith); refus
         by true q = absurd (lost.never e p (leb-true (count e) most_names q))
         by false q = refl
 
-module _ {s b g : List ℕ} {r : Model} (z : b ≡ replicate block_length 0) (m : Modelled s g r) (y : not r.ok ≡ false) where
+module _ {s b g : List ℕ} {o : Option Model} {r : Model} (z : b ≡ replicate block_length 0) (m : Modelled s g o) (y : o ≡ Some r) where
   found : ModelOf s g r
-  found = m.found (not-false r.ok y)
+  found = m.found r y
 
   follow_size : length g ≡ most_names
   follow_size =
@@ -136,21 +142,15 @@ module _ {s b g : List ℕ} {r : Model} (z : b ≡ replicate block_length 0) (m 
       is_ambiguous : c ≡ false → ambiguous found.expr ≡ true
       is_ambiguous f = not-false (ambiguous found.expr) (sym tells ∙ f)
 
-      pub model_ambiguous : (a : List ℕ) → not c ≡ true → ModelIn s a 3
-      model_ambiguous a n = record {
-        took = λ o. absurd (omega arith);
-        refused = λ o t. rw (found.reads, le-leb (count found.expr) most_names found.fits, is_ambiguous (not-true c n));
-      }
+      pub model_ambiguous : not c ≡ true → NotTaken s Ambiguous
+      model_ambiguous n = record { refused = λ t. rw (found.reads, le-leb (count found.expr) most_names found.fits, is_ambiguous (not-true c n)) }
 
-      pub model_put : {a : List ℕ} → not c ≡ false → a ≡ model_cells r (with_names b g l) → ModelIn s a 0
+      pub model_put : {a : List ℕ} → not c ≡ false → a ≡ model_cells r (with_names b g l) → Holds s a
       model_put {a} n d =
           let e = found.expr in
           let o : ambiguous e ≡ false = not-true (ambiguous e) (sym tells ∙ not-false c n) in
           record {
-            took = λ k. record {
-              expr = e;
-              reads = λ t. rw (found.reads, le-leb (count e) most_names found.fits, o);
-              cells = d ∙ numbers_put e r names_put found.count found.nullable found.first found.last (names_are found listed) found.follow;
-            };
-            refused = λ k. absurd (k refl);
+            expr = e;
+            reads = λ t. rw (found.reads, le-leb (count e) most_names found.fits, o);
+            cells = d ∙ numbers_put e r names_put found.count found.nullable found.first found.last (names_are found listed) found.follow;
           }

@@ -1,5 +1,5 @@
 -- The symbols of a model: each is at most 127, and so one byte. Assumes nothing.
-use Rattle.std.specs.Prelude.{◌≡◌, refl, Bool, ℕ, zero, suc, ◌+◌, ◌-◌, ◌*◌, ◌≤◌, ◌<◌, eqb, ltb, length, take, drop, get_or}
+use Rattle.std.specs.Prelude.{◌≡◌, refl, Result, Bool, ℕ, zero, suc, ◌+◌, ◌-◌, ◌*◌, ◌≤◌, ◌<◌, eqb, ltb, length, take, drop, get_or}
 use Rattle.std.proofs.Common.{ap, ap₂, ◌∙◌, arith, add-one, le-leb, length-drop, take-suc, drop-cons, get_or-drop}
 use Rattle.std.proofs.Math.Bool.{true, false, cond}
 use mathlib.Core.List.{List, [], ◌∷◌, ◌++◌, append-nil}
@@ -9,9 +9,11 @@ use Rattle.paper.specs.Files.{Front, broken, got, second, third, front}
 use Rattle.paper.specs.Schema.{stop, ok, valued, number, numbers}
 use Rattle.numbers.specs.Laws.{never}
 use Rattle.table_laws.specs.Readers.{never_stop, after, number_in}
-use Rattle.reading.specs.declared.Step.{Step}
-use Rattle.reading.specs.Ended.{Ended, ended_stop, ended_went, prefixed, prefixed_none, prefixed_more}
-use Rattle.reading.specs.Number.{Numbered}
+use Rattle.paper.specs.Codes.{number_of}
+use Rattle.paper.specs.declared.Refusal.{Refusal}
+use Rattle.numbers.specs.declared.Num.{Num}
+use Rattle.reading.specs.Ended.{Went, Ended, prefixed, prefixed_none, prefixed_more}
+use Rattle.reading.specs.Number.{Value, Refused}
 
 -- ---- one byte
 
@@ -62,8 +64,8 @@ number_byte lo hi s h e = let (low, high) = number_in lo hi s e in front_byte s 
 
 -- ---- n symbols
 
-abbrev pub SymbolsAt : List ℕ → ℕ → ℕ → ℕ → ℕ → Type 0
-SymbolsAt file at n top r = Ended (numbers n 0 top (drop at file)) file r (at + n) (λ l. l ≡ take n (drop at file))
+abbrev pub SymbolsAt : List ℕ → ℕ → ℕ → ℕ → Result Unit Refusal → Type 0
+SymbolsAt file at n top = Ended (numbers n 0 top (drop at file)) file (λ r. at + n) (λ r l. l ≡ take n (drop at file))
 
 -- i symbols are read
 pub record Passing (file : List ℕ) (at n top i : ℕ) : Type 0 where
@@ -79,22 +81,21 @@ module _ (file : List ℕ) (at n top : ℕ) where
       record { few = omega arith; within = omega arith; same = rw (a, b) (prefixed_none (numbers n 0 top (drop at file))) }
 
   module _ {i : ℕ} (p : Passing file at n top i) where
-    pub passed_all : n ≤ i → SymbolsAt file at n top 0
+    pub passed_all : n ≤ i → Went (numbers n 0 top (drop at file)) file (at + n) (λ l. l ≡ take n (drop at file))
     passed_all h =
         let a : i ≡ n = let f = p.few in omega arith in
         let z : n - i ≡ 0 = omega arith in
-        ended_went refl (record { value = take n (drop at file); reads = p.same ∙ rw (z, a) (ap (λ l. ok l (drop (at + n) file)) (append-nil (take n (drop at file)))); within = rw a at p.within; holds = refl })
+        record { value = take n (drop at file); reads = p.same ∙ rw (z, a) (ap (λ l. ok l (drop (at + n) file)) (append-nil (take n (drop at file)))); within = rw a at p.within; holds = refl }
 
-    module _ (h : i < n) {s : Step} (w : Numbered 0 top file (at + i) s) where
+    module _ (h : i < n) where
       left : n - i ≡ suc (n - (i + 1))
       left = omega arith
 
-      pub passed_stop : (s.number ≡ 0 → ⊥) → SymbolsAt file at n top s.number
-      passed_stop z = ended_stop z (p.same ∙ rw (left, w.stopped z))
+      pub passed_stop : (e : Refusal) → Refused 0 top file (at + i) e → numbers n 0 top (drop at file) ≡ stop (number_of e)
+      passed_stop e w = p.same ∙ rw (left, w.stopped)
 
-      pub passed_one : top < 128 → s.number ≡ 0 → Passing file at n top (i + 1)
-      passed_one low z =
-          let v = w.went z in
+      pub passed_one : {s : Num} → top < 128 → Value 0 top file (at + i) s → Passing file at n top (i + 1)
+      passed_one {s} low v =
           let b : drop (at + i) file ≡ s.value ∷ drop s.next file = number_byte 0 top (drop (at + i) file) low v.reads in
           let k : at + i < length file = omega (arith, length-drop (at + i) file, ap length b) in
           let c : drop (at + i) file ≡ get_or file (at + i) 0 ∷ drop (suc (at + i)) file = drop-cons file (at + i) 0 k in

@@ -13,27 +13,22 @@ use ambiguity::unambiguous;
 use content::{Model, read_model};
 use model_names::list_names;
 use paper::{
-    AMBIGUOUS, BLOCK_WORDS, COUNT_AT, DONE, FIRST_AT, FOLLOW_AT, LAST_AT, MODEL, NAMES_AT,
-    NO_CHILD_AT, ONE_OR_MORE, SCHEMA,
+    BLOCK_WORDS, COUNT_AT, FIRST_AT, FOLLOW_AT, LAST_AT, MODEL, NAMES_AT, NO_CHILD_AT, ONE_OR_MORE,
+    Refusal,
 };
-use reading::{Place, no_place, number_in};
+use reading::number_in;
 
 const MOST_SYMBOLS: u32 = paper::MOST_SYMBOLS as u32;
 
-// The `n` symbols at a place, each at most `top`: 0, or the refusal's number. Each symbol is one byte.
-fn check_symbols(file: &[u8], at: usize, n: usize, top: u32) -> u32
+// The `n` symbols at a place, each at most `top`, so that each is one byte.
+fn check_symbols(file: &[u8], at: usize, n: usize, top: u32) -> Result<(), Refusal>
     requires { (at ≤ length file.now) × (top < 128) }
     ensures { SymbolsAt file.now at n top result }
 {
-    let mut i: usize = 0;
-    while i < n {
-        let s = number_in(file, at + i, 0, top);
-        if s.number != DONE {
-            return s.number;
-        }
-        i += 1;
+    for i in 0..n {
+        number_in(file, at + i, 0, top)?;
     }
-    DONE
+    Ok(())
 }
 
 // The count, the flag and the sets of first and last occurrences go into a block.
@@ -47,15 +42,14 @@ fn put_model(block: &mut [u64], m: Model)
     block[LAST_AT] = m.last;
 }
 
-// The model that the symbols are goes into a block of zeros: 0, or the refusal's number.
-fn put_symbols(symbols: &[u8], block: &mut [u64]) -> u32
+// The model that the symbols are goes into a block of zeros.
+fn put_symbols(symbols: &[u8], block: &mut [u64]) -> Result<(), Refusal>
     requires { (InRange symbols.now) × (block.old ≡ replicate block_length 0) }
     ensures { ModelIn symbols.now block.new result }
 {
-    let m = read_model(symbols, &mut block[FOLLOW_AT..BLOCK_WORDS]);
-    if !m.ok {
-        return SCHEMA;
-    }
+    let Some(m) = read_model(symbols, &mut block[FOLLOW_AT..BLOCK_WORDS]) else {
+        return Err(Refusal::Schema);
+    };
     list_names(symbols, &mut block[NAMES_AT..FOLLOW_AT]);
     if !unambiguous(
         m.count,
@@ -63,40 +57,31 @@ fn put_symbols(symbols: &[u8], block: &mut [u64]) -> u32
         &block[NAMES_AT..FOLLOW_AT],
         &block[FOLLOW_AT..BLOCK_WORDS],
     ) {
-        return AMBIGUOUS;
+        return Err(Refusal::Ambiguous);
     }
     put_model(block, m);
-    DONE
+    Ok(())
 }
 
-// The content of an element, after its kind, goes into a block of zeros.
-pub fn put_content(file: &[u8], at: usize, kind: u32, elements: u32, block: &mut [u64]) -> Place
+// The content of an element, after its kind, goes into a block of zeros; the place after it.
+pub fn put_content(
+    file: &[u8],
+    at: usize,
+    kind: u32,
+    elements: u32,
+    block: &mut [u64],
+) -> Result<usize, Refusal>
     requires { (at ≤ length file.now) × (kind ≤ 2) × (elements ≤ most_elements) × (block.old ≡ replicate block_length 0) }
-    ensures { ContentIn elements kind file.now at result block.new }
+    ensures { ContentIn elements kind file.now at block.new result }
 {
     if kind < MODEL {
-        return Place {
-            number: DONE,
-            next: at,
-        };
+        return Ok(at);
     }
-    let n = number_in(file, at, 1, MOST_SYMBOLS);
-    if n.number != DONE {
-        return no_place(n.number);
-    }
+    let n = number_in(file, at, 1, MOST_SYMBOLS)?;
     let count = n.value as usize;
     let from = n.next;
-    let bad = check_symbols(file, from, count, ONE_OR_MORE + elements);
-    if bad != DONE {
-        return no_place(bad);
-    }
+    check_symbols(file, from, count, ONE_OR_MORE + elements)?;
     let to = from + count;
-    let fault = put_symbols(&file[from..to], block);
-    if fault != DONE {
-        return no_place(fault);
-    }
-    Place {
-        number: DONE,
-        next: to,
-    }
+    put_symbols(&file[from..to], block)?;
+    Ok(to)
 }

@@ -1,11 +1,12 @@
 -- The children looked at: the parent's, and those of the piece's elements. Assumes nothing.
 use Rattle.std.specs.Prelude.{◌≡◌, List, [], ◌∷◌, ◌++◌, ℕ, zero, suc, ◌+◌, ◌-◌, ◌≤◌, ◌<◌, length, take, drop}
-use Rattle.std.proofs.Common.{sym, ap, ap₂, ◌∙◌, add-one, arith, length-drop, take-take, take-add, drop_at, length-take-le}
+use Rattle.std.proofs.Common.{sym, ap, ap₂, ◌∙◌, add-one, arith, length-drop, length-take-le}
+use Rattle.std.proofs.lemmas.List.{length-map}
 use Rattle.paper.specs.declared.Tok.{Tok}
 use Rattle.paper.specs.declared.Tok.TheVariants.{Start, End, Text, Attr, Value, Bad}
-use Rattle.paper.specs.Tokens.{toks, kids, touched}
+use Rattle.paper.specs.Tokens.{tok_of, toks, kids, touched}
 use Rattle.paper.specs.Edits.{opens, children_of}
-use Rattle.shape_laws.specs.Bridge.{length_toks, toks_take}
+use Rattle.shape_laws.specs.Bridge.{length_toks, toks_take, toks_drop}
 use Rattle.shape_laws.specs.Depth.{count, count_few}
 use Rattle.shape_laws.specs.Touch.{parent_of}
 use Rattle.shape_laws.specs.Splice.{parts}
@@ -34,34 +35,34 @@ kids_few (suc k) (Bad ∷ d) = omega (arith, kids_few (suc k) d)
 
 -- ---- the document, by what stands before the piece, the piece, and what stands behind it
 
-module _ (doc : List ℕ) (used at n : ℕ) (l : used ≤ length doc) (h : at + n ≤ used) where
+module _ (doc : List ℕ) (at n : ℕ) (h : at + n ≤ length doc) where
   abbrev d : List Tok
-  d = toks (take used doc)
+  d = toks doc
 
   abbrev ahead : List Tok
   ahead = toks (take at doc)
 
   abbrev piece : List Tok
-  piece = drop at (toks (take (at + n) doc))
+  piece = toks (take n (drop at doc))
 
   abbrev behind : List Tok
   behind = drop (at + n) d
 
-  front : (k : ℕ) → k ≤ used → toks (take k doc) ≡ take k d
-  front k g = ap toks (sym (take-take k used doc g)) ∙ toks_take k (take used doc)
+  ahead_long : length ahead ≡ at
+  ahead_long = length_toks doc at (omega arith)
+
+  piece_long : length piece ≡ n
+  piece_long = length-map (take n (drop at doc)) tok_of ∙ length-take-le n (drop at doc) (omega (arith, length-drop at doc))
 
   split : d ≡ ahead ++ (piece ++ behind)
   split =
       sym (parts at n d)
-      ∙ ap₂ (λ x y. x ++ (y ++ behind)) (sym (front at (omega arith)))
-      (sym
-      (ap (drop at) (front (at + n) h ∙ take-add at n d)
-      ∙ drop_at (take at d) (take n (drop at d)) at (length-take-le at d (omega (arith, length_toks doc used l)))))
+      ∙ ap₂ (λ x y. x ++ (y ++ behind)) (sym (toks_take at doc)) (sym (toks_take n (drop at doc) ∙ ap (take n) (toks_drop at doc)))
 
   looked : Comes piece → children_of (touched at n d) 0 d ≡ over ahead (piece ++ behind) + (count opens piece - 1)
   looked c =
       ap (λ x. children_of (touched at n x) 0 x) split
-      ∙ touched_children ahead piece behind at n (sym (length_toks doc at (omega arith))) (omega (arith, length-drop at (toks (take (at + n) doc)), length_toks doc (at + n) (omega arith)))
+      ∙ touched_children ahead piece behind at n (sym ahead_long) (sym piece_long)
       ∙ ap (λ x. over ahead (piece ++ behind) + x) (own_is piece behind c)
 
   -- ---- as the code has it
@@ -70,16 +71,16 @@ module _ (doc : List ℕ) (used at n : ℕ) (l : used ≤ length doc) (h : at + 
     -- without a parent
     pub looked_alone : at ≤ parent → m ≡ children_of (touched at n d) 0 d
     looked_alone g =
-        let z = over_none ahead (piece ++ behind) (omega (arith, length_toks doc at (omega arith))) in
+        let z = over_none ahead (piece ++ behind) (omega (arith, ahead_long)) in
         omega (arith, looked c, z)
 
     pub looked_both : {k : ℕ} → parent < at → k ≡ length (kids zero (drop (parent + 1) d)) → k + m ≡ children_of (touched at n d) 0 d
     looked_both {k = k} g ek =
-        let z = over_parent ahead (piece ++ behind) (omega (arith, length_toks doc at (omega arith))) in
+        let z = over_parent ahead (piece ++ behind) (omega (arith, ahead_long)) in
         let same : length (kids zero (drop (suc (parent_of ahead)) (ahead ++ (piece ++ behind)))) ≡ k
         = ap₂ (λ x y. length (kids zero (drop x y))) (ap suc (sym ep) ∙ sym (add-one parent)) (sym split) ∙ sym ek in
         omega (arith, looked c, z, same)
 
   -- what the piece adds is small
   pub piece_small : count opens piece ≤ n
-  piece_small = omega (arith, count_few opens piece, length-drop at (toks (take (at + n) doc)), length_toks doc (at + n) (omega arith))
+  piece_small = omega (arith, count_few opens piece, piece_long)

@@ -4,7 +4,7 @@
 // Nothing is written. Assumes nothing.
 #![tactic(auto)]
 
-ghost use Rattle.std.specs.Prelude.{◌≡◌, ◌-◌, ◌≤◌, length, take, drop};
+ghost use Rattle.std.specs.Prelude.{◌≡◌, ◌-◌, ◌≤◌, length};
 ghost use Rattle.paper.specs.Basics.{most_tokens};
 ghost use Rattle.paper.specs.Tokens.{toks};
 ghost use Rattle.paper.specs.Edits.{opens};
@@ -12,29 +12,22 @@ ghost use Rattle.shape_laws.specs.Depth.{count};
 
 use tokens::{is_start, is_text};
 
-// The starts and texts from a place up to another.
-fn items(doc: &[u32], from: usize, to: usize) -> u32
-    requires { (from ≤ to) × (to ≤ length doc.now) × (to ≤ most_tokens) }
-    ensures { result ≡ count opens (drop from (toks (take to doc.now))) }
+// The starts and texts of a piece.
+fn items(piece: &[u32]) -> u32
+    requires { length piece.now ≤ most_tokens }
+    ensures { result ≡ count opens (toks piece.now) }
 {
     let mut n: u32 = 0;
-    let mut i = from;
-    while i < to {
-        let t = doc[i];
-        n += (is_start(t) | is_text(t)) as u32;
-        i += 1;
+    for t in piece {
+        n += (is_start(*t) | is_text(*t)) as u32;
     }
     n
 }
 
 // Item 10: "plus those of every element in the piece": the starts and texts of the piece, less the piece itself.
-pub fn own(doc: &[u32], from: usize, to: usize) -> u32
-    requires { (from ≤ to) × (to ≤ length doc.now) × (to ≤ most_tokens) }
-    ensures { result ≡ count opens (drop from (toks (take to doc.now))) - 1 }
+pub fn own(piece: &[u32]) -> u32
+    requires { length piece.now ≤ most_tokens }
+    ensures { result ≡ count opens (toks piece.now) - 1 }
 {
-    let n = items(doc, from, to);
-    if n == 0 {
-        return 0;
-    }
-    n - 1
+    items(piece).saturating_sub(1)
 }

@@ -1,39 +1,41 @@
 -- A count with what comes and what goes, as one number of the code, and the 48 of them. Assumes nothing.
-use Rattle.std.specs.Prelude.{◌≡◌, refl, Bool, true, false, cond, ◌&&◌, List, [], ◌∷◌, ◌++◌, map, ℕ, zero, suc, ◌+◌, ◌≤◌, ◌<◌, leb, ℤ, pos, negsuc, ◌+ℤ◌, ◌-ℤ◌, length, get_or, set, take, drop}
+use Rattle.std.specs.Prelude.{◌≡◌, refl, Option, Some, None, Bool, true, false, cond, ◌&&◌, List, [], ◌∷◌, ◌++◌, map, ℕ, zero, suc, ◌+◌, ◌≤◌, ◌<◌, leb, ℤ, pos, negsuc, ◌+ℤ◌, ◌-ℤ◌, length, get_or, set, take, drop}
 use Rattle.std.proofs.Math.Path.{sym, ap}
-use Rattle.std.proofs.Common.{ap₂, ◌∙◌, arith, add-one, leb-true, to_z, length-set, take-suc, take-suc-set, take_all}
-use Rattle.std.proofs.Math.Bool.{and-eq-true_iff, and_assoc, and-true}
+use Rattle.std.proofs.Common.{ap₂, subst, ◌∙◌, arith, add-one, leb-true, to_z, length-set, take-suc, take-suc-set, take_all}
+use Rattle.std.proofs.Math.Bool.{and-eq-true_iff, and_assoc, and-false}
 use Rattle.std.specs.Int.{w32}
 use Rattle.std.proofs.Math.Facts.{to_z_pos}
-use Rattle.std.proofs.lemmas.List.{length-map}
-use Rattle.std.proofs.Math.Seq.{drop-length}
+use Rattle.std.proofs.lemmas.List.{length-map, map-append}
 use Rattle.paper.specs.Basics.{most_tokens, most_elements, all}
 use Rattle.paper.specs.Counts.{count_good}
-use Rattle.basic_laws.specs.Bools.{clash}
-use Rattle.basic_laws.specs.Lists.{drop_next}
+use Rattle.basic_laws.specs.Bools.{both}
 use Rattle.tallies.specs.Tallies.{names_by, names_long, names_at}
 
 -- ---- one count
 
--- a count if it is neither "below 0" nor "above 8,192"; else 8,193
-abbrev pub within : ℤ → ℕ
-within (pos n) = cond (leb n most_tokens) n (suc most_tokens)
-within (negsuc n) = suc most_tokens
+-- a count if it is neither "below 0" nor "above 8,192"
+abbrev pub within : ℤ → Option ℕ
+within (pos n) = cond (leb n most_tokens) (Some n) None
+within (negsuc n) = None
 
 abbrev pub few : ℕ → Bool
 few n = leb n most_tokens
 
-pub few_within : (z : ℤ) → few (within z) ≡ count_good z
-few_within (pos n) = go (leb n most_tokens) refl
+within_some : (z : ℤ) {n : ℕ} → Some n ≡ within z → (pos n ≡ z) × (count_good z ≡ true)
+within_some (pos m) {n} e = go (leb m most_tokens) e refl
   where
-    go : (b : Bool) → leb n most_tokens ≡ b → leb (cond b n (suc most_tokens)) most_tokens ≡ leb n most_tokens
-    go true e = refl
-    go false e = sym e
-few_within (negsuc n) = refl
+    go : (b : Bool) → Some n ≡ cond b (Some m) None → leb m most_tokens ≡ b → (pos n ≡ pos m) × (leb m most_tokens ≡ true)
+    go true e w = (cc, w)
+    go false e w = absurd (cc)
+within_some (negsuc m) e = absurd (cc)
 
-pub within_good : (z : ℤ) → count_good z ≡ true → pos (within z) ≡ z
-within_good (pos n) e = ap (λ b. pos (cond b n (suc most_tokens))) e
-within_good (negsuc n) e = clash e refl
+within_none : (z : ℤ) → None ≡ within z → count_good z ≡ false
+within_none (pos m) e = go (leb m most_tokens) e
+  where
+    go : (b : Bool) → None ≡ cond b (Some m) None → b ≡ false
+    go true e = absurd (cc)
+    go false e = refl
+within_none (negsuc m) e = refl
 
 -- ---- all of them
 
@@ -45,11 +47,23 @@ pub record FewEach (l : List ℕ) : Type 0 where
 pub few_each : {l : List ℕ} → FewEach l → (i : ℕ) → get_or l i 0 ≤ most_tokens
 few_each f = f.most
 
-abbrev pub moved_at : (counts : List ℤ) (goes comes : List ℕ) → ℕ → ℕ
-moved_at counts goes comes e = within (get_or counts e (pos 0) +ℤ pos (get_or comes e 0) -ℤ pos (get_or goes e 0))
+abbrev pub moved_at : (counts : List ℤ) (goes comes : List ℕ) → ℕ → ℤ
+moved_at counts goes comes e = get_or counts e (pos 0) +ℤ pos (get_or comes e 0) -ℤ pos (get_or goes e 0)
 
-unfoldable pub moved_by : (counts : List ℤ) (goes comes : List ℕ) → List ℕ
+unfoldable pub moved_by : (counts : List ℤ) (goes comes : List ℕ) → List ℤ
 moved_by counts goes comes = names_by (moved_at counts goes comes) 0 most_elements
+
+-- the counts as numbers; none where one is "below 0 or above 8,192"
+abbrev pub Numbers : List ℤ → Option (List ℕ) → Type 0
+Numbers counts (Some now) = (all few now ≡ true) × (map pos now ≡ counts)
+Numbers counts None = all count_good counts ≡ false
+
+all_few : (l : List ℕ) → all count_good (map pos l) ≡ all few l
+all_few [] = refl
+all_few (n ∷ l) = ap (λ b. few n && b) (all_few l)
+
+pub numbers_good : (now : List ℕ) {counts : List ℤ} → (all few now ≡ true) × (map pos now ≡ counts) → all count_good counts ≡ true
+numbers_good now {counts} n = ap (all count_good) (sym n.1) ∙ all_few now ∙ n.0
 
 -- ---- 48 places, filled one after another
 
@@ -76,46 +90,63 @@ module _ {A : Type 0} (target : List A) where
 
 -- ---- the counts, moved
 
+all_append : (a b : List ℤ) → all count_good (a ++ b) ≡ (all count_good a && all count_good b)
+all_append [] b = refl
+all_append (z ∷ a) b = ap (λ x. count_good z && x) (all_append a b) ∙ sym (and_assoc (count_good z) (all count_good a) (all count_good b))
+
+all_not : (l : List ℤ) (i : ℕ) → i < length l → count_good (get_or l i (pos 0)) ≡ false → all count_good l ≡ false
+all_not [] i h e = absurd (omega arith)
+all_not (z ∷ l) zero h e = ap (λ b. b && all count_good l) e
+all_not (z ∷ l) (suc i) h e = ap (λ b. count_good z && b) (all_not l i (omega arith) e) ∙ and-false (count_good z)
+
+-- the counts before e are moved, and good
+pub record Moving (counts : List ℤ) (goes comes now : List ℕ) (e : ℕ) : Type 0 where
+  pub long : length now ≡ most_elements
+  pub front : map pos (take e now) ≡ take e (moved_by counts goes comes)
+  pub good : all count_good (take e (moved_by counts goes comes)) ≡ true
+
 module _ (counts : List ℤ) (goes comes : List ℕ) where
   moved_long : length (moved_by counts goes comes) ≡ most_elements
   unfolding moved_by
   moved_long = names_long (moved_at counts goes comes) 0 most_elements
 
-  moved_at_lem : (e : ℕ) → e < most_elements → moved_at counts goes comes e ≡ get_or (moved_by counts goes comes) e 0
+  moved_at_lem : (e : ℕ) → e < most_elements → moved_at counts goes comes e ≡ get_or (moved_by counts goes comes) e (pos 0)
   unfolding moved_by
-  moved_at_lem e h = sym (names_at (moved_at counts goes comes) 0 most_elements e h ∙ ap (moved_at counts goes comes) (omega arith))
+  moved_at_lem e h = sym (names_at (pos 0) (moved_at counts goes comes) 0 most_elements e h ∙ ap (moved_at counts goes comes) (omega arith))
 
-  pub moving_begin : {now : List ℕ} → length now ≡ most_elements → Filling (moved_by counts goes comes) now 0
-  moving_begin = fill_begin (moved_by counts goes comes)
+  pub moving_begin : {now : List ℕ} → length now ≡ most_elements → Moving counts goes comes now 0
+  moving_begin l = record { long = l; front = refl; good = refl }
 
-  pub moving_turn : {now : List ℕ} {e x : ℕ} → Filling (moved_by counts goes comes) now e → e < most_elements
-      → x ≡ within (get_or counts e (pos 0) +ℤ pos (get_or comes e 0) -ℤ pos (get_or goes e 0)) → Filling (moved_by counts goes comes) (set now e x) (e + 1)
-  moving_turn {now} {e} f h v = fill_turn (moved_by counts goes comes) moved_long f 0 h (v ∙ moved_at_lem e h)
+  next : (e : ℕ) → e < most_elements → take (e + 1) (moved_by counts goes comes) ≡ take e (moved_by counts goes comes) ++ (moved_at counts goes comes e ∷ [])
+  next e h =
+      ap (λ k. take k (moved_by counts goes comes)) (add-one e) ∙ take-suc (moved_by counts goes comes) e (pos 0) (omega (arith, moved_long))
+      ∙ ap (λ z. take e (moved_by counts goes comes) ++ (z ∷ [])) (sym (moved_at_lem e h))
 
-  pub moving_end : {now : List ℕ} {e : ℕ} → Filling (moved_by counts goes comes) now e → most_elements ≤ e → now ≡ moved_by counts goes comes
-  moving_end f h = fill_end (moved_by counts goes comes) moved_long f h
+  pub moving_turn : {now : List ℕ} {e x : ℕ} {r : Option ℕ} → Moving counts goes comes now e → e < most_elements → r ≡ Some x
+      → r ≡ within (get_or counts e (pos 0) +ℤ pos (get_or comes e 0) -ℤ pos (get_or goes e 0)) → Moving counts goes comes (set now e x) (e + 1)
+  moving_turn {now} {e} {x} m h q v =
+      let (is, good) = within_some (moved_at counts goes comes e) (sym q ∙ v) in
+      record {
+        long = length-set now e x ∙ m.long;
+        front = ap (λ k. map pos (take k (set now e x))) (add-one e) ∙ ap (map pos) (take-suc-set now e x (omega (arith, m.long)))
+            ∙ map-append pos (take e now) (x ∷ []) ∙ ap₂ (λ l y. l ++ (y ∷ [])) m.front is ∙ sym (next e h);
+        good = ap (all count_good) (next e h) ∙ all_append (take e (moved_by counts goes comes)) (moved_at counts goes comes e ∷ [])
+            ∙ both m.good (both good refl);
+      }
 
--- ---- each is looked at
+  pub moving_stop : {e : ℕ} {r : Option ℕ} → e < most_elements → r ≡ None → r ≡ within (get_or counts e (pos 0) +ℤ pos (get_or comes e 0) -ℤ pos (get_or goes e 0))
+      → all count_good (moved_by counts goes comes) ≡ false
+  moving_stop {e} h q v =
+      all_not (moved_by counts goes comes) e (omega (arith, moved_long)) (ap count_good (sym (moved_at_lem e h)) ∙ within_none (moved_at counts goes comes e) (sym q ∙ v))
 
-pub record Looking (l : List ℕ) (found : Bool) (e : ℕ) : Type 0 where
-  pub most : e ≤ length l
-  pub rest : found && all few (drop e l) ≡ all few l
-
-pub looking_begin : {l : List ℕ} → Looking l true 0
-looking_begin = record { most = omega arith; rest = refl }
-
-module _ {l : List ℕ} {found : Bool} {e : ℕ} (k : Looking l found e) where
-  pub looking_turn : e < length l → Looking l (found && leb (get_or l e 0) most_tokens) (e + 1)
-  looking_turn h = record {
-    most = omega arith;
-    rest = and_assoc found (few (get_or l e 0)) (all few (drop (e + 1) l)) ∙ ap (λ m. found && all few m) (sym (drop_next l e h)) ∙ k.rest;
-  }
-
-  ends : length l ≤ e → e ≡ length l
-  ends h = omega (arith, k.most)
-
-  pub looking_end : length l ≤ e → found ≡ all few l
-  looking_end h = sym (and-true found) ∙ ap (λ m. found && all few m) (sym (ap (λ i. drop i l) (ends h) ∙ drop-length l)) ∙ k.rest
+  pub moving_end : {now : List ℕ} {e : ℕ} → Moving counts goes comes now e → most_elements ≤ e → e ≤ most_elements → (all few now ≡ true) × (map pos now ≡ moved_by counts goes comes)
+  moving_end {now} {e} m h k =
+      let is : e ≡ most_elements = omega arith in
+      let f : map pos (take most_elements now) ≡ take most_elements (moved_by counts goes comes) = subst (λ i. map pos (take i now) ≡ take i (moved_by counts goes comes)) is m.front in
+      let g : all count_good (take most_elements (moved_by counts goes comes)) ≡ true = subst (λ i. all count_good (take i (moved_by counts goes comes)) ≡ true) is m.good in
+      let whole : take most_elements (moved_by counts goes comes) ≡ moved_by counts goes comes = take_all most_elements (moved_by counts goes comes) (omega (arith, moved_long)) in
+      let are : map pos now ≡ moved_by counts goes comes = ap (map pos) (sym (take_all most_elements now (omega (arith, m.long)))) ∙ f ∙ whole in
+      (sym (all_few now) ∙ ap (all count_good) are ∙ sym (ap (all count_good) whole) ∙ g, are)
 
 -- ---- counts that are written
 

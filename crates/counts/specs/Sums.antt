@@ -1,5 +1,5 @@
 -- A count of 32 bits with what comes and what goes, summed in 64 bits: nothing wraps. Assumes nothing.
-use Rattle.std.specs.Prelude.{◌≡◌, refl, Bool, true, false, cond, ℕ, zero, suc, ◌+◌, ◌-◌, ◌≤◌, T, ltb, ℤ, pos, negsuc, nat_abs, ◌+ℤ◌, ◌-ℤ◌}
+use Rattle.std.specs.Prelude.{◌≡◌, refl, Option, Some, None, Bool, true, false, cond, ℕ, zero, suc, ◌+◌, ◌-◌, ◌≤◌, T, ltb, ℤ, pos, negsuc, nat_abs, ◌+ℤ◌, ◌-ℤ◌}
 use Rattle.std.proofs.Common.{sym, ap, ap₂, subst, ◌∙◌, arith, le_trans, le-leb, ltb-true, ltb-false, Fits, SFits, to_z, of_z, to_z-of_z}
 use Rattle.std.proofs.lemmas.Bool.{lt-leb}
 use Rattle.std.specs.Int.Signed.{mag, lt_z, non_neg}
@@ -27,20 +27,20 @@ mag_sub (negsuc a) (suc k) = omega arith
 
 -- ---- what a test tells
 
-low : (z : ℤ) → lt_z z (pos 0) ≡ true → 8193 ≡ within z
+low : (z : ℤ) → lt_z z (pos 0) ≡ true → None ≡ within z
 low (pos n) h = absurd (omega (arith, ltb-true n 0 h))
 low (negsuc n) h = refl
 
-high : (z : ℤ) → lt_z (pos most_tokens) z ≡ true → 8193 ≡ within z
-high (pos n) h = sym (ap (λ b. cond b n (suc most_tokens)) (lt-leb n most_tokens (ltb-true most_tokens n h)))
+high : (z : ℤ) → lt_z (pos most_tokens) z ≡ true → None ≡ within z
+high (pos n) h = sym (ap (λ b. cond b (Some n) None) (lt-leb n most_tokens (ltb-true most_tokens n h)))
 high (negsuc n) h = refl
 
 cast_good : (z : ℤ) → lt_z z (pos 0) ≡ false → lt_z (pos most_tokens) z ≡ false → T (non_neg z) × Fits w32 (nat_abs z)
 cast_good (pos n) l h = (tt, record { fits = omega (arith, ltb-false most_tokens n h) })
 cast_good (negsuc n) l h = clash refl l
 
-between_is : (z : ℤ) → lt_z z (pos 0) ≡ false → lt_z (pos most_tokens) z ≡ false → nat_abs z ≡ within z
-between_is (pos n) l h = sym (ap (λ b. cond b n (suc most_tokens)) (le-leb n most_tokens (ltb-false most_tokens n h)))
+between_is : (z : ℤ) → lt_z z (pos 0) ≡ false → lt_z (pos most_tokens) z ≡ false → Some (nat_abs z) ≡ within z
+between_is (pos n) l h = sym (ap (λ b. cond b (Some n) None) (le-leb n most_tokens (ltb-false most_tokens n h)))
 between_is (negsuc n) l h = clash refl l
 
 -- ---- the sum, as it is computed
@@ -82,18 +82,18 @@ module _ {n : ℤ} (f : SFits w32 n) {comes goes : ℕ} (hc : comes ≤ most_tok
   final_is : to_z w64 (of_z w64 sum) ≡ n +ℤ pos comes -ℤ pos goes
   final_is = to_z-of_z sum_fits ∙ sum_is
 
-  abbrev out : ℕ
+  abbrev out : Option ℕ
   out = within (n +ℤ pos comes -ℤ pos goes)
 
-  pub below_out : lt_z (to_z w64 (of_z w64 sum)) (pos 0) ≡ true → 8193 ≡ out
+  pub below_out : lt_z (to_z w64 (of_z w64 sum)) (pos 0) ≡ true → None ≡ out
   below_out h = low (n +ℤ pos comes -ℤ pos goes) (ap (λ z. lt_z z (pos 0)) (sym final_is) ∙ h)
 
-  pub above_out : lt_z (pos most_tokens) (to_z w64 (of_z w64 sum)) ≡ true → 8193 ≡ out
+  pub above_out : lt_z (pos most_tokens) (to_z w64 (of_z w64 sum)) ≡ true → None ≡ out
   above_out h = high (n +ℤ pos comes -ℤ pos goes) (ap (lt_z (pos most_tokens)) (sym final_is) ∙ h)
 
   module _ (l : lt_z (to_z w64 (of_z w64 sum)) (pos 0) ≡ false) (h : lt_z (pos most_tokens) (to_z w64 (of_z w64 sum)) ≡ false) where
     pub between_cast : T (non_neg (to_z w64 (of_z w64 sum))) × Fits w32 (nat_abs (to_z w64 (of_z w64 sum)))
     between_cast = cast_good (to_z w64 (of_z w64 sum)) l h
 
-    pub between_out : nat_abs (to_z w64 (of_z w64 sum)) ≡ out
+    pub between_out : Some (nat_abs (to_z w64 (of_z w64 sum))) ≡ out
     between_out = between_is (to_z w64 (of_z w64 sum)) l h ∙ ap within final_is

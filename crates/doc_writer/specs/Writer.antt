@@ -110,22 +110,22 @@ file_long [] = omega arith
 file_long (t ∷ l) = omega (arith, length-append (bytes_of t) (file_of l), most_wide t, file_long l)
 
 module _ (tokens buffer : List ℕ) where
-  pub write_many : {r : Count} → most_tokens < length tokens → r ≡ answer 5 0 → outcome r buffer ≡ write tokens buffer
+  pub write_many : most_tokens < length tokens → outcome (answer 5 0) buffer ≡ write tokens buffer
   unfolding write writing
-  write_many h q = rw (q, lt-ltb most_tokens (length tokens) h)
+  write_many h = rw (lt-ltb most_tokens (length tokens) h)
 
   module _ (few : length tokens ≤ most_tokens) {s : Bool} (e : s ≡ small tokens) where
-    pub write_large : {r : Count} → not s ≡ true → r ≡ answer 4 0 → outcome r buffer ≡ write tokens buffer
+    pub write_large : not s ≡ true → outcome (answer 4 0) buffer ≡ write tokens buffer
     unfolding write writing
-    write_large l q = rw (q, le-ltb most_tokens (length tokens) few, sym e ∙ not-true s l)
+    write_large l = rw (le-ltb most_tokens (length tokens) few, sym e ∙ not-true s l)
 
     module _ (l : not s ≡ false) {n : ℕ} (c : n ≡ length (file_of tokens)) where
       fit : small tokens ≡ true
       fit = sym e ∙ not-false s l
 
-      pub write_full : {a : Count} → length buffer < n → a ≡ answer 5 0 → outcome a buffer ≡ write tokens buffer
+      pub write_full : length buffer < n → outcome (answer 5 0) buffer ≡ write tokens buffer
       unfolding write writing
-      write_full r q = rw (q, le-ltb most_tokens (length tokens) few, fit, lt-leb (length (file_of tokens)) (length buffer) (omega arith))
+      write_full r = rw (le-ltb most_tokens (length tokens) few, fit, lt-leb (length (file_of tokens)) (length buffer) (omega arith))
 
       module _ (r : n ≤ length buffer) where
         pub write_ready : Ready tokens buffer

@@ -1,9 +1,11 @@
 -- The outcome of a call, tokens that have bytes, and a list laid over a part of a buffer. Assumes nothing.
-use Rattle.std.specs.Prelude.{◌≡◌, Bool, List, [], ◌++◌, ℕ, ◌+◌, ◌≤◌, leb, length, take, drop}
+use Rattle.std.specs.Prelude.{◌≡◌, Result, Ok, Err, Bool, List, [], ◌++◌, ℕ, ◌+◌, ◌≤◌, leb, length, take, drop}
 use Rattle.std.proofs.Common.{ap, ◌∙◌, append_assoc, add_assoc, arith, length-append, take-append-drop, take_at, drop_at, drop-drop, length-take-le}
 use Rattle.std.proofs.lemmas.List.Edits.{sets, sets-eq}
 use Rattle.paper.specs.Basics.{all}
 use Rattle.paper.specs.Files.{largest, Counted}
+use Rattle.paper.specs.Codes.{number_of}
+use Rattle.paper.specs.declared.Refusal.{Refusal}
 use Rattle.docfile.specs.declared.Count.{Count}
 
 -- the answer, with every place of the buffer
@@ -13,6 +15,11 @@ outcome r buffer = record { number = r.number; count = r.count; buffer = buffer 
 -- number k and count n
 abbrev pub answer : ℕ → ℕ → Count
 answer k n = record { number = k; count = n }
+
+-- 0 and the count, or the refusal's number and 0
+abbrev pub count_of : Result ℕ Refusal → Count
+count_of (Ok n) = answer 0 n
+count_of (Err e) = answer (number_of e) 0
 
 -- no token is too large
 abbrev pub small : List ℕ → Bool

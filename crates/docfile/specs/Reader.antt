@@ -1,5 +1,5 @@
 -- The reader: decoding into an array, and copying. Assumes nothing.
-use Rattle.std.specs.Prelude.{◌≡◌, refl, List, [], ◌∷◌, ◌++◌, ℕ, suc, ◌+◌, ◌-◌, ◌≤◌, ◌<◌, min, length, set, get_or}
+use Rattle.std.specs.Prelude.{◌≡◌, refl, Option, Some, None, Result as std·Result, Ok, Err, List, [], ◌∷◌, ◌++◌, ℕ, suc, ◌+◌, ◌-◌, ◌≤◌, ◌<◌, min, length, set, get_or}
 use Rattle.std.proofs.Common.{sym, ap, ◌∙◌, append-nil, arith, add-one, length-take, length-set, drop_of_length-le, drop-cons, take-suc-set, length-take-le}
 use Rattle.std.proofs.Math.Nat.{sub-zero}
 use Rattle.std.proofs.Math.ListN.{take, drop}
@@ -10,19 +10,9 @@ use Rattle.paper.specs.Files.{Result, refused, made, put, tokens_in, reading, co
 use Rattle.numbers.specs.At.{num_at, Stands, at_got, at_broken}
 use Rattle.numbers.specs.Laws.{tokens_next, tokens_broken, tokens_full, tokens_end, tokens_made}
 use Rattle.numbers.specs.declared.Num.{Num}
-use Rattle.numbers.specs.declared.Num.TheVariants.{Broken, Got}
-use Rattle.docfile.specs.declared.Count.{Count}
+use Rattle.paper.specs.Codes.{number_of}
+use Rattle.paper.specs.declared.Refusal.{Refusal}
 use Rattle.docfile.specs.Outcome.{outcome, answer}
-
--- the answer
-abbrev pub tally : Result → Count
-tally (refused k) = answer k 0
-tally (made l) = answer 0 (length l)
-
--- what was made; nothing, where it was refused
-abbrev pub list_of : Result → List ℕ
-list_of (refused k) = []
-list_of (made l) = l
 
 -- ---- decoding
 
@@ -31,10 +21,16 @@ pub record Roomy (file got : List ℕ) (room : ℕ) : Type 0 where
   pub few : room ≤ most_tokens
   pub long : min room (length file) ≤ length got
 
--- c answers what came of reading, and the tokens read stand in the first places
-pub record Decoded (r : Result) (c : Count) (got : List ℕ) : Type 0 where
-  pub answers : c ≡ tally r
-  pub tokens : take c.count got ≡ list_of r
+-- n tokens were read, which stand in the first places
+pub record Tokens (r : Result) (room : ℕ) (got : List ℕ) (n : ℕ) : Type 0 where
+  pub tokens : r ≡ made (take n got)
+  pub held : n ≤ length got
+  pub few : n ≤ room
+
+-- what came of reading: tokens, or the number of the refusal
+abbrev pub Decoded : Result → ℕ → List ℕ → std·Result ℕ Refusal → Type 0
+Decoded r room got (Ok n) = Tokens r room got n
+Decoded r room got (Err e) = r ≡ refused (number_of e)
 
 -- l, and then what is made
 abbrev after : List ℕ → Result → Result
@@ -61,76 +57,58 @@ module _ (file before : List ℕ) (room : ℕ) where
   pub decode_none : Decoding file before room 0 0 before
   decode_none = record { within = omega arith; few = omega arith; slow = omega arith; long = refl; same = rw sub-zero (after_none (tokens_in room file)) }
 
-  -- a refusal, whatever the places hold
-  decode_refused : {k : ℕ} {r : Count} (got : List ℕ) → tokens_in room file ≡ refused k → r ≡ answer k 0 → Decoded (tokens_in room file) r got
-  decode_refused got e q = rw (e, q) (record { answers = refl; tokens = refl })
-
   module _ {at n : ℕ} {got : List ℕ} (o : Roomy file before room) (c : Decoding file before room at n got) where
-    pub decode_end : length file ≤ at → Decoded (tokens_in room file) (answer 0 n) got
-    decode_end h =
-        let e : tokens_in room file ≡ made (take n got) = c.same ∙ rw (drop_of_length-le file h, tokens_end (room - n), append-nil) in
-        let k : length (take n got) ≡ n = length-take-le n got (omega (arith, o.long, c.few, c.slow, c.within, c.long)) in
-        rw e (record { answers = ap (answer 0) (sym k); tokens = refl })
+    pub decode_end : length file ≤ at → Tokens (tokens_in room file) room got n
+    decode_end h = record {
+      tokens = c.same ∙ rw (drop_of_length-le file h, tokens_end (room - n), append-nil);
+      held = omega (arith, o.long, c.few, c.slow, c.within, c.long);
+      few = c.few;
+    }
 
-    module _ (h : at < length file) {a : Num} (e : a ≡ num_at file at) where
+    module _ (h : at < length file) {a : Option Num} (e : a ≡ num_at file at) where
       byte : drop at file ≡ get_or file at 0 ∷ drop (suc at) file
       byte = drop-cons file at 0 h
 
-      pub decode_broken : {r : Count} → a ≡ Broken → r ≡ answer 1 0 → Decoded (tokens_in room file) r got
-      decode_broken b q =
-          decode_refused got (c.same ∙ rw (byte, tokens_broken (room - n) (get_or file at 0) (drop (suc at) file) (rw byte at ((at_broken file at).0 (sym e ∙ b))))) q
+      pub decode_broken : a ≡ None → tokens_in room file ≡ refused 1
+      decode_broken b = c.same ∙ rw (byte, tokens_broken (room - n) (get_or file at 0) (drop (suc at) file) (rw byte at ((at_broken file at).0 (sym e ∙ b))))
 
-      module _ {v next : ℕ} (g : a ≡ Got v next) where
-        told : Stands file at v next
-        told = at_got file at v next (sym e ∙ g)
+      module _ {x : Num} (g : a ≡ Some x) where
+        told : Stands file at x.value x.next
+        told = at_got file at x.value x.next (sym e ∙ g)
 
-        pub decode_less : length file - next < length file - at
+        pub decode_less : length file - x.next < length file - at
         decode_less = omega (arith, told.on)
 
-        pub decode_full : {r : Count} → n ≡ room → r ≡ answer 5 0 → Decoded (tokens_in room file) r got
-        decode_full f q =
+        pub decode_full : n ≡ room → tokens_in room file ≡ refused 5
+        decode_full f =
             let z : room - n ≡ 0 = omega arith in
-            decode_refused got (c.same ∙ rw (z, byte, tokens_full (get_or file at 0) (drop (suc at) file) v (drop next file) (rw byte at told.reads))) q
+            c.same ∙ rw (z, byte, tokens_full (get_or file at 0) (drop (suc at) file) x.value (drop x.next file) (rw byte at told.reads))
 
         module _ (f : n ≡ room → ⊥) where
           pub decode_place : n < length got
           decode_place = omega (arith, o.long, c.few, c.slow, c.long)
 
-          pub decode_more : Decoding file before room next (n + 1) (set got n v)
+          pub decode_more : Decoding file before room x.next (n + 1) (set got n x.value)
           decode_more =
               let z : room - n ≡ suc (room - (n + 1)) = omega (arith, c.few) in
-              let s : take (n + 1) (set got n v) ≡ take n got ++ (v ∷ []) = rw add-one (take-suc-set got n v decode_place) in
+              let s : take (n + 1) (set got n x.value) ≡ take n got ++ (x.value ∷ []) = rw add-one (take-suc-set got n x.value decode_place) in
               record {
                 within = told.within;
                 few = omega (arith, c.few);
                 slow = omega (arith, c.slow, told.on);
                 long = simp length-set c.long;
-                same = c.same ∙ rw (z, tokens_next (room - (n + 1)) (drop at file) v (drop next file) told.reads, s) (after_put (take n got) v (tokens_in (room - (n + 1)) (drop next file)));
+                same = c.same ∙ rw (z, tokens_next (room - (n + 1)) (drop at file) x.value (drop x.next file) told.reads, s) (after_put (take n got) x.value (tokens_in (room - (n + 1)) (drop x.next file)));
               }
 
 -- ---- both
 
--- the tokens that were read have places where they were decoded ..
-pub read_held : (r : Result) {c : Count} {got : List ℕ} → Decoded r c got → 0 + c.count ≤ length got
-read_held (refused k) d = rw d.answers (omega arith)
-read_held (made l) {c} {got} d = omega (arith, ap (λ a. a.count) d.answers, ap length d.tokens, length-take c.count got)
-
-module _ (file buffer : List ℕ) {room : ℕ} (e : room ≡ min (length buffer) most_tokens) {c : Count} {got : List ℕ} (d : Decoded (tokens_in room file) c got) where
-  -- .. and in the lent buffer
-  pub read_fits : 0 + c.count ≤ length buffer
-  read_fits = rw d.answers (go (tokens_in room file) refl)
-    where
-      go : (r : Result) → tokens_in room file ≡ r → 0 + (tally r).count ≤ length buffer
-      go (refused k) p = omega arith
-      go (made l) p = omega (arith, (tokens_made room file l p).1)
-
-  pub read_is : {now : List ℕ} → now ≡ paste buffer 0 (drop 0 got) c.count → outcome c now ≡ read file buffer
+module _ (file buffer : List ℕ) {room : ℕ} (e : room ≡ min (length buffer) most_tokens) where
+  pub read_refused : {k : ℕ} → tokens_in room file ≡ refused k → outcome (answer k 0) buffer ≡ read file buffer
   unfolding read reading
-  read_is {now} p = rw (← e) (go (tokens_in room file) d)
-    where
-      q : now ≡ take c.count got ++ drop c.count buffer
-      q = copied_front buffer got c.count p
+  read_refused r = rw (← e, r)
 
-      go : (r : Result) → Decoded r c got → outcome c now ≡ counted r buffer
-      go (refused k) d = rw (q, d.answers)
-      go (made l) d = rw (q, d.tokens, d.answers)
+  pub read_is : {got now : List ℕ} {n : ℕ} → Tokens (tokens_in room file) room got n → now ≡ paste buffer 0 (drop 0 got) n → outcome (answer 0 n) now ≡ read file buffer
+  unfolding read reading
+  read_is {got} {now} {n} d p =
+      let q : now ≡ take n got ++ drop n buffer = copied_front buffer got n p in
+      rw (← e, d.tokens, q, length-take-le n got d.held)

@@ -1,10 +1,11 @@
 -- What the calls leave: the answer and every byte of the buffer. Assumes nothing.
-use Rattle.std.specs.Prelude.{◌≡◌, refl, ◌≢◌, Bool, true, false, cond, List, [], ◌++◌, ℕ, ◌+◌, ◌-◌, ◌≤◌, ◌<◌, min, leb, ltb, take, drop}
-use Rattle.std.proofs.Common.{sym, ◌∙◌, subst, ⊎_elim, leb-true, leb-false, ltb-true, ltb-false}
+use Rattle.std.specs.Prelude.{◌≡◌, refl, Bool, true, false, cond, Ok, Err, List, [], ◌++◌, ℕ, ◌+◌, ◌-◌, ◌≤◌, ◌<◌, min, leb, ltb, take, drop}
+use Rattle.std.proofs.Common.{sym, ◌∙◌, subst, leb-true, leb-false, ltb-true, ltb-false}
 use Rattle.std.proofs.Math.Path.{ap}
 use native.Mathlib.Omega.{arith}
 use Rattle.std.proofs.Math.ListN.{length, length-drop}
 use Rattle.paper.specs.Files.{counted}
+use Rattle.paper.specs.Codes.{number_of}
 use Rattle.paper.specs.Dtd.Declarations.{Declaration, element_names}
 use Rattle.paper.specs.Dtd.Letters.{among}
 use Rattle.paper.specs.Dtd.Readers.{Read, stop, ok, outside}
@@ -16,10 +17,10 @@ use Rattle.lines.specs.Put.{Put}
 use Rattle.dtd_list.specs.Lengths.{up_to}
 use Rattle.docfile.specs.declared.Count.{Count}
 use Rattle.docfile.specs.Outcome.{outcome, answer}
-use Rattle.dtd_laws.specs.Refusals.{refused_with}
 use Rattle.dtd_laws.specs.Texts.{reading_exactly}
 use Rattle.dtd_laws.specs.Unique.{any}
 use Rattle.paper.specs.Dtd.Numbering.{listed}
+use Rattle.dtd_words.specs.declared.Fault.{Fault}
 use Rattle.dtd_words.specs.Places.{At}
 use Rattle.dtd_names.specs.Named.{names_at}
 use Rattle.dtd_texts.specs.declared.Reading.{Reading}
@@ -50,20 +51,18 @@ nothing_left text ds s e = first (reading any text) e
     first (stop k t) e = let z : ◌≡◌ {A = ℕ} 0 1 = cc in absurd (omega arith)
     first (ok es t) e = second es t (null (element_names es)) e
 
-module _ (text es cs qs ns hs ts : List ℕ) (d : Reading) (x : Told any text d es cs qs ns hs ts (declared text)) where
-  pub stopped : d.number ≢ 0 → (s : List ℕ) × (declared text ≡ stop d.number s) × At text d.at s
-  stopped n = by (declared text) refl x
+module _ (text es cs qs ns hs ts : List ℕ) where
+  pub stopped : (f : Fault) → Told any text (Err f) es cs qs ns hs ts (declared text) → (s : List ℕ) × (declared text ≡ stop (number_of f.refusal) s) × At text f.at s
+  stopped f x = by (declared text) refl x
     where
-      by : (o : Read (List Declaration)) → declared text ≡ o → Told any text d es cs qs ns hs ts o → (s : List ℕ) × (declared text ≡ stop d.number s) × At text d.at s
+      by : (o : Read (List Declaration)) → declared text ≡ o → Told any text (Err f) es cs qs ns hs ts o → (s : List ℕ) × (declared text ≡ stop (number_of f.refusal) s) × At text f.at s
       by (stop k s) e (z, y) = (s, e ∙ rw z, y)
-      by (ok ds s) e (z, y, w) = absurd (n z)
+      by (ok ds s) e y = absurd y
 
-  pub taken : Lists es cs qs ns hs ts → d.number ≡ 0 → (ds : List Declaration) × (s : List ℕ) × (declared text ≡ ok ds s) × Held text es cs qs ns hs ts d.elements d.attributes d.many ds
-  taken l n = by (declared text) refl x
+  pub taken : (d : Reading) → Told any text (Ok d) es cs qs ns hs ts (declared text) → Lists es cs qs ns hs ts
+      → (ds : List Declaration) × (s : List ℕ) × (declared text ≡ ok ds s) × Held text es cs qs ns hs ts d.elements d.attributes d.many ds
+  taken d x l = by (declared text) refl x
     where
-      none : (s t : List ℕ) (k : ℕ) → declared s ≡ stop k t → k ≢ 0
-      none s t k e z = ⊎_elim (λ i. absurd (omega arith)) (λ i. absurd (omega arith)) (refused_with s t k e)
-
       at_end : (ds : List Declaration) (s : List ℕ) → declared text ≡ ok ds s → At text d.at s → d.at ≡ length text
       at_end ds s e y =
           let r = nothing_left text ds s e in
@@ -71,57 +70,58 @@ module _ (text es cs qs ns hs ts : List ℕ) (d : Reading) (x : Told any text d 
           let i = y.inside in
           omega (arith, length-drop d.at text)
 
-      by : (o : Read (List Declaration)) → declared text ≡ o → Told any text d es cs qs ns hs ts o
+      by : (o : Read (List Declaration)) → declared text ≡ o → Told any text (Ok d) es cs qs ns hs ts o
           → (ds : List Declaration) × (s : List ℕ) × (declared text ≡ ok ds s) × Held text es cs qs ns hs ts d.elements d.attributes d.many ds
-      by (stop k s) e (z, y) = absurd (none text s k e (sym z ∙ n))
-      by (ok ds s) e (z, y, w) = (ds, s, e, record { long = l; holding = subst (λ p. Holding any text ds p es cs qs ns hs ts d.elements d.attributes d.many) (at_end ds s e y) w })
+      by (stop k s) e y = absurd y
+      by (ok ds s) e (y, w) = (ds, s, e, record { long = l; holding = subst (λ p. Holding any text ds p es cs qs ns hs ts d.elements d.attributes d.many) (at_end ds s e y) w })
 
 -- ---- the calls
 
 abbrev pub spotted : Spot → Imported.Spot
 spotted r = record { number = r.number; offset = r.offset }
 
-module _ (text es cs qs ns hs ts : List ℕ) (d : Reading) (x : Told any text d es cs qs ns hs ts (declared text)) where
-  pub not_imported : (buffer : List ℕ) (r : Count) → d.number ≢ 0 → r ≡ answer d.number 0 → outcome r buffer ≡ import text buffer
-  unfolding import
-  not_imported buffer r n e = let (s, f, a) = stopped text es cs qs ns hs ts d x n in rw (e, f)
+module _ (text es cs qs ns hs ts : List ℕ) where
+  module _ (f : Fault) (x : Told any text (Err f) es cs qs ns hs ts (declared text)) where
+    pub not_imported : (buffer : List ℕ) (r : Count) → r ≡ answer (number_of f.refusal) 0 → outcome r buffer ≡ import text buffer
+    unfolding import
+    not_imported buffer r e = let (s, g, a) = stopped text es cs qs ns hs ts f x in rw (e, g)
 
-  pub not_named : (buffer : List ℕ) (r : Count) → d.number ≢ 0 → r ≡ answer d.number 0 → outcome r buffer ≡ names text buffer
-  unfolding names
-  not_named buffer r n e = let (s, f, a) = stopped text es cs qs ns hs ts d x n in rw (e, f)
+    pub not_named : (buffer : List ℕ) (r : Count) → r ≡ answer (number_of f.refusal) 0 → outcome r buffer ≡ names text buffer
+    unfolding names
+    not_named buffer r e = let (s, g, a) = stopped text es cs qs ns hs ts f x in rw (e, g)
 
-  pub not_taken : d.number ≢ 0 → spotted (record { number = d.number; offset = d.at }) ≡ spot text
-  unfolding spot
-  not_taken n =
-      let (s, f, a) = stopped text es cs qs ns hs ts d x n in
-      let i = a.inside in
-      let l : length s ≡ length text - d.at = ap length (sym a.rest) ∙ length-drop d.at text in
-      let o : length text - length s ≡ d.at = omega arith in
-      rw (f, o)
+    pub not_taken : spotted (record { number = number_of f.refusal; offset = f.at }) ≡ spot text
+    unfolding spot
+    not_taken =
+        let (s, g, a) = stopped text es cs qs ns hs ts f x in
+        let i = a.inside in
+        let l : length s ≡ length text - f.at = ap length (sym a.rest) ∙ length-drop f.at text in
+        let o : length text - length s ≡ f.at = omega arith in
+        rw (g, o)
 
-  module _ (l : Lists es cs qs ns hs ts) (n : d.number ≡ 0) where
+  module _ (d : Reading) (x : Told any text (Ok d) es cs qs ns hs ts (declared text)) (l : Lists es cs qs ns hs ts) where
     pub held : Holds text es cs qs ns hs ts d.elements d.attributes d.many
-    held = let (ds, s, e, h) = taken text es cs qs ns hs ts d x l n in record { ds = ds; held = h }
+    held = let (ds, s, e, h) = taken text es cs qs ns hs ts d x l in record { ds = ds; held = h }
 
     pub some_names : (d.elements ≤ length es) × (d.attributes ≤ length ns)
     some_names =
-        let (ds, s, e, h) = taken text es cs qs ns hs ts d x l n in
+        let (ds, s, e, h) = taken text es cs qs ns hs ts d x l in
         let f = h.holding.few in
         let g = h.holding.few_attributes in
         (omega (arith, l.elements_long), omega (arith, l.attributes_long))
 
     pub imported : (buffer after : List ℕ) (r : Count) → SchemaPut text es cs qs ns hs ts d.elements d.attributes d.many buffer r after → outcome r after ≡ import text buffer
     unfolding import
-    imported buffer after r p = let (ds, s, e, h) = taken text es cs qs ns hs ts d x l n in rw e (p ds h)
+    imported buffer after r p = let (ds, s, e, h) = taken text es cs qs ns hs ts d x l in rw e (p ds h)
 
     pub named : (buffer after : List ℕ) (r : Count)
         → Roomed (listed (names_at text (take d.elements es) ++ names_at text (take d.attributes ns))) buffer r after → outcome r after ≡ names text buffer
     unfolding names
-    named buffer after r p = let (ds, s, e, h) = taken text es cs qs ns hs ts d x l n in rw e (rw (h.holding.names, h.holding.listed) at p)
+    named buffer after r p = let (ds, s, e, h) = taken text es cs qs ns hs ts d x l in rw e (rw (h.holding.names, h.holding.listed) at p)
 
     pub told : spotted (record { number = 0; offset = 0 }) ≡ spot text
     unfolding spot
-    told = let (ds, s, e, h) = taken text es cs qs ns hs ts d x l n in rw e
+    told = let (ds, s, e, h) = taken text es cs qs ns hs ts d x l in rw e
 
 -- ---- the list of names, up to the room there is
 

@@ -5,7 +5,7 @@
 // Assumes nothing.
 #![tactic(auto)]
 
-ghost use Rattle.std.specs.Prelude.{◌≡◌, ◌++◌, ◌≤◌, min, length, take};
+ghost use Rattle.std.specs.Prelude.{◌≡◌, ◌++◌, min};
 ghost use Rattle.paper.specs.Dtd.Imported;
 ghost use Rattle.paper.specs.Dtd.Numbering.{listed};
 ghost use Rattle.dtd_names.specs.Named.{names_at};
@@ -38,22 +38,22 @@ pub fn import(text: &[u8], file: &mut [u8]) -> Count
         &mut heads,
         &mut rows,
     );
-    if d.number != 0 {
-        return refusal(d.number);
+    match d {
+        Ok(d) => put_schema(
+            text,
+            &elements,
+            &contents,
+            &ends,
+            d.elements,
+            &attributes,
+            d.attributes,
+            &heads,
+            d.many,
+            &rows,
+            file,
+        ),
+        Err(fault) => refusal(fault.refusal.number()),
     }
-    put_schema(
-        text,
-        &elements,
-        &contents,
-        &ends,
-        d.elements,
-        &attributes,
-        d.attributes,
-        &heads,
-        d.many,
-        &rows,
-        file,
-    )
 }
 
 // The most bytes that a count holds, or the buffer has.
@@ -67,23 +67,15 @@ fn most_room(len: usize) -> usize
 }
 
 // The list of the names, from where they stand in the text.
-fn put_words(
-    text: &[u8],
-    elements: &[usize],
-    count: usize,
-    attributes: &[usize],
-    defined: usize,
-    names: &mut [u8],
-) -> Count
-    requires { (count ≤ length elements.now) × (defined ≤ length attributes.now) }
-    ensures { Roomed (listed (names_at text.now (take count elements.now) ++ names_at text.now (take defined attributes.now))) names.old result names.new }
+fn put_words(text: &[u8], elements: &[usize], attributes: &[usize], names: &mut [u8]) -> Count
+    ensures { Roomed (listed (names_at text.now elements.now ++ names_at text.now attributes.now)) names.old result names.new }
 {
     let room = most_room(names.len());
-    let n = names_length(text, elements, count, attributes, defined, room);
+    let n = names_length(text, elements, attributes, room);
     if room < n {
         return refusal(ROOM);
     }
-    let put = put_names(text, elements, count, attributes, defined, names);
+    let put = put_names(text, elements, attributes, names);
     let count = put as u32;
     Count {
         number: DONE,
@@ -110,12 +102,14 @@ pub fn names(text: &[u8], names: &mut [u8]) -> Count
         &mut heads,
         &mut rows,
     );
-    if d.number != 0 {
-        return refusal(d.number);
+    match d {
+        Ok(d) => {
+            let first = &elements[..d.elements];
+            let second = &attributes[..d.attributes];
+            put_words(text, first, second, names)
+        }
+        Err(fault) => refusal(fault.refusal.number()),
     }
-    let count = d.elements;
-    let defined = d.attributes;
-    put_words(text, &elements, count, &attributes, defined, names)
 }
 
 // Where a text is refused.
@@ -144,14 +138,14 @@ pub fn import_spot(text: &[u8]) -> Spot
         &mut heads,
         &mut rows,
     );
-    if d.number != 0 {
-        return Spot {
-            number: d.number,
-            offset: d.at,
-        };
-    }
-    Spot {
-        number: DONE,
-        offset: 0,
+    match d {
+        Ok(_) => Spot {
+            number: DONE,
+            offset: 0,
+        },
+        Err(fault) => Spot {
+            number: fault.refusal.number(),
+            offset: fault.at,
+        },
     }
 }

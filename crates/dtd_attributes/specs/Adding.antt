@@ -1,10 +1,11 @@
 -- The definitions of an ATTLIST, one after another: turns of the loop. Assumes nothing.
-use Rattle.std.specs.Prelude.{◌≡◌, refl, ◌≢◌, Bool, true, false, cond, ◌&&◌, List, [], ◌∷◌, ◌++◌, ℕ, zero, suc, ◌+◌, ◌-◌, ◌≤◌, ◌<◌, length, drop, take}
+use Rattle.std.specs.Prelude.{◌≡◌, refl, Bool, true, false, cond, ◌&&◌, Result, Ok, Err, List, [], ◌∷◌, ◌++◌, ℕ, zero, suc, ◌+◌, ◌-◌, ◌≤◌, ◌<◌, length, drop, take}
 use Rattle.std.proofs.Common.{sym, ap, subst, ◌∙◌, append_assoc, append-nil, arith, ltb-true, length-drop, length-take-le}
 use Rattle.std.proofs.Math.Bool.{and-eq-true_iff}
 use Rattle.std.proofs.lemmas.Bool.{not-true}
 use Rattle.std.proofs.lemmas.List.{length-map}
 use Rattle.paper.specs.Basics.{most_attributes}
+use Rattle.paper.specs.Codes.{kind_of, status_of}
 use Rattle.paper.specs.Dtd.Letters.{Name, is_white, past, among, greater}
 use Rattle.paper.specs.Dtd.Declarations.{Definition, Declaration, attlist, defined_for, firsts_after, attribute_names}
 use Rattle.paper.specs.Dtd.Numbering.{number_in, kind_number, status_number}
@@ -16,10 +17,9 @@ use Rattle.dtd_laws.specs.Unique.{any}
 use Rattle.dtd_laws.specs.Attributes.{definition_exact, asked_exact, definition_strict}
 use Rattle.dtd_laws.specs.Kept.{words, words_append}
 use Rattle.dtd_laws.specs.Names.{own_for, names_different}
-use Rattle.dtd_laws.specs.Refusals.{definition_stops}
-use Rattle.dtd_words.specs.declared.Step.{Step}
+use Rattle.dtd_words.specs.declared.Fault.{Fault}
 use Rattle.dtd_words.specs.Places.{At}
-use Rattle.dtd_words.specs.Words.{Came}
+use Rattle.dtd_words.specs.Words.{CameTo, Came, faulty, came_faulty}
 use Rattle.dtd_names.specs.Named.{name_at, names_at}
 use Rattle.dtd_rows.specs.declared.Row.{Row}
 use Rattle.dtd_rows.specs.Rows.{with_definition, called, RowOf, row_name}
@@ -29,7 +29,7 @@ use Rattle.dtd_before.specs.Paths.{declared_to}
 use Rattle.dtd_before.specs.Scans.{Ready}
 use Rattle.dtd_definitions.specs.declared.Defined.{Defined}
 use Rattle.dtd_definitions.specs.Asked.{new_in, room_in, ids_in, definition_in, definition_same}
-use Rattle.dtd_definitions.specs.Whole.{DefinitionCame}
+use Rattle.dtd_definitions.specs.Whole.{DefinitionIs, DefinitionCame}
 use Rattle.dtd_attributes.specs.declared.Ended.{Ended}
 use Rattle.dtd_attributes.specs.Noting.{Noted, noted_names}
 
@@ -67,19 +67,21 @@ module _ (text : List ℕ) (upto e : ℕ) where
   definitions = bounded (λ b. att_defs any (declared_to text upto) (name_at text e) b [])
 
   -- what their reader came to: the names of the text's attributes then, and the element's row
-  abbrev pub EndCame : List ℕ → Ended → Read (List Definition) → Type 0
-  EndCame exit r (ok ds s) =
-      (r.number ≡ 0)
-      × At text r.at s
+  abbrev pub EndIs : List ℕ → Ended → List Definition → List ℕ → Type 0
+  EndIs exit r ds s =
+      At text r.at s
       × (r.count ≤ most_attributes)
       × (names_at text (take r.count exit) ≡ attribute_names (declared_to text upto ++ attlist (name_at text e) ds ∷ []))
       × RowOf (attribute_names (declared_to text upto ++ attlist (name_at text e) ds ∷ [])) (defined_for (name_at text e) (declared_to text upto ++ attlist (name_at text e) ds ∷ [])) r.row
-  EndCame exit r (stop k s) = (r.number ≡ k) × At text r.at s
+
+  abbrev pub EndCame : List ℕ → Result Ended Fault → Read (List Definition) → Type 0
+  EndCame exit r o = CameTo (EndIs exit) text r o
 
   pub record Opened (attributes : List ℕ) (count at : ℕ) (row : Row) : Type 0 where
     pub inside : at ≤ length text
     pub long : most_attributes ≤ length attributes
-    pub ready : Ready text upto attributes count
+    pub few : count ≤ most_attributes
+    pub ready : Ready text upto (take count attributes)
     pub row_of : RowOf (attribute_names (declared_to text upto)) (defined_for (name_at text e) (declared_to text upto)) row
 
   -- at i: own are the ATTLIST's definitions up to there
@@ -102,7 +104,7 @@ module _ (text : List ℕ) (upto e : ℕ) where
         record {
           inside = o.inside;
           long = o.long;
-          few = o.ready.few;
+          few = o.few;
           own = [];
           bound = suc (length (drop at text));
           enough = omega arith;
@@ -135,18 +137,20 @@ module _ (text : List ℕ) (upto e : ℕ) where
           by zero h = absurd (omega arith)
           by (suc k) h = rw (sym q ∙ p) refl
 
-      pub adding_ended : b ≡ false → (s : Step) → Came text s (greater_after (drop i text))
-          → EndCame attributes (record { number = s.number; at = s.at; count = count; row = row }) (definitions (drop at text))
-      adding_ended p s x = rw (finished p) (by (greater_after (drop i text)) x)
+      pub adding_ended : b ≡ false → (j : ℕ) → Came text (Ok j) (greater_after (drop i text))
+          → EndCame attributes (Ok (record { at = j; count = count; row = row })) (definitions (drop at text))
+      adding_ended p j x = rw (finished p) (by (greater_after (drop i text)) x)
         where
-          by : (o : Read (Unit {0})) → Came text s o → EndCame attributes (record { number = s.number; at = s.at; count = count; row = row }) (onward o (λ u. pure c.own))
-          by (ok u t) (f, a) = (f, a, c.few, c.names, c.row_of)
-          by (stop k t) y = y
+          by : (o : Read (Unit {0})) → Came text (Ok j) o → EndCame attributes (Ok (record { at = j; count = count; row = row })) (onward o (λ u. pure c.own))
+          by (ok u t) a = (a, c.few, c.names, c.row_of)
+          by (stop k t) y = absurd y
+
+      pub adding_open : b ≡ false → (f : Fault) → Came text (Err f) (greater_after (drop i text)) → EndCame attributes (Err f) (definitions (drop at text))
+      adding_open p f x = rw (finished p) (came_faulty (EndIs attributes) text (λ u. pure c.own) f (greater_after (drop i text)) x)
 
       -- ---- one more
 
-      module _ (p : b ≡ true) (d : Defined)
-          (x : DefinitionCame text (names_at text (take count attributes)) d (definition_in (names_at text (take count attributes)) row (drop i text))) where
+      module _ (p : b ≡ true) where
         abbrev more : ℕ → Definition → Reader (List Definition)
         more k y = att_defs any old n k (c.own ++ y ∷ [])
 
@@ -158,34 +162,32 @@ module _ (text : List ℕ) (upto e : ℕ) where
             by zero h r = absurd (omega arith)
             by (suc k) h r = (k, refl, r ∙ rw (sym q ∙ p) refl)
 
-        came : DefinitionCame text (attribute_names upto_here) d (att_def any upto_here n (drop i text))
-        came = rw (← definition_same upto_here n row c.row_of any few_names (drop i text), ← c.names) x
+        came : (r : Result Defined Fault) → DefinitionCame text (names_at text (take count attributes)) r (definition_in (names_at text (take count attributes)) row (drop i text))
+            → DefinitionCame text (attribute_names upto_here) r (att_def any upto_here n (drop i text))
+        came r x = rw (← definition_same upto_here n row c.row_of any few_names (drop i text), ← c.names) x
 
-        pub adding_failed : d.number ≢ 0 → EndCame attributes (record { number = d.number; at = d.at; count = count; row = row }) (definitions (drop at text))
-        adding_failed o = rw turned.2 (by (att_def any upto_here n (drop i text)) came)
-          where
-            by : (z : Read Definition) → DefinitionCame text (attribute_names upto_here) d z
-                → EndCame attributes (record { number = d.number; at = d.at; count = count; row = row }) (onward z (more turned.0))
-            by (ok y s) w = absurd (o w.0)
-            by (stop k s) w = w
+        pub adding_failed : (f : Fault) → DefinitionCame text (names_at text (take count attributes)) (Err f) (definition_in (names_at text (take count attributes)) row (drop i text))
+            → EndCame attributes (Err f) (definitions (drop at text))
+        adding_failed f x =
+            rw turned.2 (faulty (DefinitionIs text (attribute_names upto_here)) (EndIs attributes) text (more turned.0) f (att_def any upto_here n (drop i text)) (came (Err f) x))
 
-        module _ (o : d.number ≡ 0) where
+        module _ (d : Defined) (x : DefinitionCame text (names_at text (take count attributes)) (Ok d) (definition_in (names_at text (take count attributes)) row (drop i text))) where
           -- the definition that was read
           pub record Read_one (y : Definition) : Type 0 where
             pub reads : att_def any upto_here n (drop i text) ≡ ok y (drop d.at text)
             pub inside : d.at ≤ length text
             pub name : name_at text d.place ≡ y.name
             pub number : d.attribute ≡ number_in (attribute_names upto_here) y.name
-            pub kind : d.kind ≡ kind_number y.kind
-            pub status : d.status ≡ status_number y.status
+            pub kind : kind_of d.kind ≡ kind_number y.kind
+            pub status : status_of d.status ≡ status_number y.status
 
           one : (y : Definition) × Read_one y
-          one = by (att_def any upto_here n (drop i text)) refl came
+          one = by (att_def any upto_here n (drop i text)) refl (came (Ok d) x)
             where
-              by : (z : Read Definition) → att_def any upto_here n (drop i text) ≡ z → DefinitionCame text (attribute_names upto_here) d z → (y : Definition) × Read_one y
-              by (ok y s) e (w, a, f, g, h, k) =
+              by : (z : Read Definition) → att_def any upto_here n (drop i text) ≡ z → DefinitionCame text (attribute_names upto_here) (Ok d) z → (y : Definition) × Read_one y
+              by (ok y s) e (a, f, g, h, k) =
                   (y, record { reads = e ∙ ap (λ t. ok y t) (sym a.rest); inside = a.inside; name = f; number = g; kind = h; status = k })
-              by (stop k s) e (w, a) = absurd (definition_stops (λ k. k ≢ 0) (λ z. omega arith) any (λ z. omega arith) upto_here n (drop i text) s k e (sym w ∙ o))
+              by (stop k s) e w = absurd w
 
           abbrev y : Definition
           y = one.0
@@ -213,7 +215,7 @@ module _ (text : List ℕ) (upto e : ℕ) where
               let v = ((and-eq-true_iff (new_in names row y.name) (room_in names y.name)).0 u).1 in
               rw one.1.number (ltb-true (number_in names y.name) most_attributes v)
 
-          pub adding_more : (exit : List ℕ) (count' : ℕ) (row' : Row) → row' ≡ with_definition row d.attribute d.kind d.status
+          pub adding_more : (exit : List ℕ) (count' : ℕ) (row' : Row) → row' ≡ with_definition row d.attribute (kind_of d.kind) (status_of d.status)
               → Noted attributes exit count d.attribute d.place count' → Adding at exit count' d.at row'
           adding_more exit count' row' f g =
               let names : List Name = attribute_names upto_here in
@@ -226,8 +228,8 @@ module _ (text : List ℕ) (upto e : ℕ) where
               let apart = subst (λ l. different l ≡ true) grown (names_different (old ++ attlist n (c.own ++ y ∷ []) ∷ [])) in
               let f' : row' ≡ with_definition row (number_in (with_name names y.name) y.name) (kind_number y.kind) (status_number y.status) =
               f
-              ∙ ap (λ x. with_definition row x d.kind d.status) (r.number ∙ sym (number_same names y.name))
-              ∙ ap (λ x. with_definition row (number_in (with_name names y.name) y.name) x d.status) r.kind
+              ∙ ap (λ x. with_definition row x (kind_of d.kind) (status_of d.status)) (r.number ∙ sym (number_same names y.name))
+              ∙ ap (λ x. with_definition row (number_in (with_name names y.name) y.name) x (status_of d.status)) r.kind
               ∙ ap (λ x. with_definition row (number_in (with_name names y.name) y.name) (kind_number y.kind) x) r.status in
               record {
                 inside = r.inside;

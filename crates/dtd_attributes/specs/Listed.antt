@@ -1,18 +1,16 @@
 -- An ATTLIST, put together of its steps. Assumes nothing.
-use Rattle.std.specs.Prelude.{◌≡◌, refl, ◌≢◌, Bool, true, false, cond, List, [], ◌∷◌, ◌++◌, ℕ, zero, suc, ◌≤◌, length, drop, take}
-use Rattle.std.proofs.Common.{ap, ◌∙◌, arith}
+use Rattle.std.specs.Prelude.{◌≡◌, refl, Bool, true, false, cond, Result, Ok, Err, List, [], ◌∷◌, ◌++◌, ℕ, zero, suc, ◌≤◌, length, drop, take}
+use Rattle.std.proofs.Common.{sym, ap}
 use Rattle.paper.specs.Basics.{most_attributes}
 use Rattle.paper.specs.Dtd.Letters.{Name, is_first, is_more, begins, run, past, word_attlist}
 use Rattle.paper.specs.Dtd.Declarations.{Definition, Declaration, attlist, attribute_names}
 use Rattle.paper.specs.Dtd.Readers.{Read, stop, ok, Reader, onward, bounded, pure, literal, S, name}
 use Rattle.paper.specs.Dtd.Reading.{mention, att_def, due, ended, att_defs, attlist_decl}
 use Rattle.dtd_laws.specs.Unique.{any}
-use Rattle.dtd_laws.specs.Refusals.{literal_stops, S_stops, name_stops, tested_stops}
-use Rattle.dtd_words.specs.declared.Step.{Step}
+use Rattle.dtd_words.specs.declared.Fault.{Fault}
 use Rattle.dtd_words.specs.Places.{At}
-use Rattle.dtd_words.specs.Words.{Came}
+use Rattle.dtd_words.specs.Words.{CameTo, Came, came_faulty, came_onwards}
 use Rattle.dtd_names.specs.Named.{name_at, names_at}
-use Rattle.dtd_kinds.specs.Kinds.{went, failed}
 use Rattle.dtd_before.specs.Paths.{declared_to}
 use Rattle.dtd_heads.specs.declared.Found.{Found}
 use Rattle.dtd_heads.specs.Heads.{Heads}
@@ -22,33 +20,33 @@ use Rattle.dtd_attributes.specs.declared.Ended.{Ended}
 use Rattle.dtd_attributes.specs.Adding.{definitions, EndCame}
 
 -- what the reader of an ATTLIST came to: the names of the text's attributes then, and the table of rows
-abbrev pub ListedCame : (text : List ℕ) (upto : ℕ) (exit heads rows : List ℕ) → Listed → Read Declaration → Type 0
-ListedCame text upto exit heads rows r (ok d s) =
-    (r.number ≡ 0)
-    × At text r.at s
+abbrev pub ListedIs : (text : List ℕ) (upto : ℕ) (exit heads rows : List ℕ) → Listed → Declaration → List ℕ → Type 0
+ListedIs text upto exit heads rows r d s =
+    At text r.at s
     × (r.count ≤ most_attributes)
     × (names_at text (take r.count exit) ≡ attribute_names (declared_to text upto ++ d ∷ []))
     × Heads text (declared_to text upto ++ d ∷ []) heads r.many rows
-ListedCame text upto exit heads rows r (stop k s) = (r.number ≡ k) × At text r.at s
+
+abbrev pub ListedCame : (text : List ℕ) (upto : ℕ) (exit heads rows : List ℕ) → Result Listed Fault → Read Declaration → Type 0
+ListedCame text upto exit heads rows r o = CameTo (ListedIs text upto exit heads rows) text r o
 
 -- ---- the definitions, and the row that is kept
 
-abbrev pub ElementCame : (text : List ℕ) (upto e : ℕ) (exit heads rows : List ℕ) → Listed → Read (List Definition) → Type 0
-ElementCame text upto e exit heads rows r (ok ds s) =
-    (r.number ≡ 0)
-    × At text r.at s
-    × (r.count ≤ most_attributes)
-    × (names_at text (take r.count exit) ≡ attribute_names (declared_to text upto ++ attlist (name_at text e) ds ∷ []))
-    × Heads text (declared_to text upto ++ attlist (name_at text e) ds ∷ []) heads r.many rows
-ElementCame text upto e exit heads rows r (stop k s) = (r.number ≡ k) × At text r.at s
+abbrev pub ElementCame : (text : List ℕ) (upto e : ℕ) (exit heads rows : List ℕ) → Result Listed Fault → Read (List Definition) → Type 0
+ElementCame text upto e exit heads rows r o = CameTo (λ v ds s. ListedIs text upto exit heads rows v (attlist (name_at text e) ds) s) text r o
 
 pub element_came : (text : List ℕ) (upto e many : ℕ) (heads heads' rows rows' exit : List ℕ) (f : Found) (x : Ended) (m : ℕ) (o : Read (List Definition))
-    → Heads text (declared_to text upto) heads many rows → RowFound text upto e heads many f → EndCame text upto e exit x o
+    → Heads text (declared_to text upto) heads many rows → RowFound text upto e heads many f → EndCame text upto e exit (Ok x) o
     → Kept heads heads' many rows rows' f.place e x.row m
-    → ElementCame text upto e exit heads' rows' (record { number = x.number; at = x.at; count = x.count; many = m }) o
-element_came text upto e many heads heads' rows rows' exit f x m (ok ds s) t g (a, b, c, d, w) k =
-    (a, b, c, d, heads_kept text (declared_to text upto) heads many rows t e ds x.row w f.place g.place heads' rows' m k)
-element_came text upto e many heads heads' rows rows' exit f x m (stop j s) t g c k = c
+    → ElementCame text upto e exit heads' rows' (Ok (record { at = x.at; count = x.count; many = m })) o
+element_came text upto e many heads heads' rows rows' exit f x m (ok ds s) t g (b, c, d, w) k =
+    (b, c, d, heads_kept text (declared_to text upto) heads many rows t e ds x.row w f.place g.place heads' rows' m k)
+element_came text upto e many heads heads' rows rows' exit f x m (stop j s) t g c k = absurd c
+
+pub element_failed : (text : List ℕ) (upto e : ℕ) (exit exit' heads rows : List ℕ) (f : Fault) (o : Read (List Definition))
+    → EndCame text upto e exit (Err f) o → ElementCame text upto e exit' heads rows (Err f) o
+element_failed text upto e exit exit' heads rows f (ok ds s) c = absurd c
+element_failed text upto e exit exit' heads rows f (stop k s) c = c
 
 -- ---- definitions ask for no name
 
@@ -65,11 +63,14 @@ any_same known old e (suc b) own s =
 
 -- ---- step by step
 
-module _ (text : List ℕ) (upto : ℕ) (known : Name → Bool) (at count many : ℕ) (exit heads rows : List ℕ) where
+module _ (text : List ℕ) (upto : ℕ) (known : Name → Bool) (at : ℕ) (exit heads rows : List ℕ) where
   abbrev old : List Declaration
   old = declared_to text upto
 
-  abbrev Whole : Listed → Type 0
+  abbrev Is : Listed → Declaration → List ℕ → Type 0
+  Is = ListedIs text upto exit heads rows
+
+  abbrev Whole : Result Listed Fault → Type 0
   Whole r = ListedCame text upto exit heads rows r (attlist_decl known (declared_to text upto) (drop at text))
 
   -- behind the name, behind white space, and behind the word
@@ -82,55 +83,47 @@ module _ (text : List ℕ) (upto : ℕ) (known : Name → Bool) (at count many :
   abbrev behind : Reader Declaration
   behind t = onward (S t) (λ u. further)
 
-  module _ (s : Step) (c : Came text s (literal word_attlist (drop at text))) where
-    pub no_word : s.number ≢ 0 → Whole (record { number = s.number; at = s.at; count = count; many = many })
-    no_word p = let (q, h) = failed text s (literal word_attlist (drop at text)) c p in rw q (refl, record { inside = h; rest = refl })
+  pub no_word : (f : Fault) → Came text (Err f) (literal word_attlist (drop at text)) → Whole (Err f)
+  no_word f c = came_faulty Is text (λ u. behind) f (literal word_attlist (drop at text)) c
 
-    module _ (p : s.number ≡ 0) where
-      word_read : attlist_decl known old (drop at text) ≡ behind (drop s.at text)
-      word_read =
-          let (u, q, h) = went text s (literal word_attlist (drop at text)) (λ k t e. literal_stops (λ k. k ≢ 0) (λ z. omega arith) word_attlist (drop at text) t k e) c p in
-          ap (λ o. onward o (λ u. behind)) q
+  module _ (s : ℕ) (c : Came text (Ok s) (literal word_attlist (drop at text))) where
+    word_read : (r : Result Listed Fault) → CameTo Is text r (behind (drop s text)) → Whole r
+    word_read r x = came_onwards Is text (λ u. behind) s (literal word_attlist (drop at text)) r c (λ u. x)
 
-      module _ (w : Step) (d : Came text w (S (drop s.at text))) where
-        pub no_white : w.number ≢ 0 → Whole (record { number = w.number; at = w.at; count = count; many = many })
-        no_white o = let (q, h) = failed text w (S (drop s.at text)) d o in rw (word_read, q) (refl, record { inside = h; rest = refl })
+    pub no_white : (f : Fault) → Came text (Err f) (S (drop s text)) → Whole (Err f)
+    no_white f d = word_read (Err f) (came_faulty Is text (λ u. further) f (S (drop s text)) d)
 
-        module _ (o : w.number ≡ 0) where
-          white_read : attlist_decl known old (drop at text) ≡ further (drop w.at text)
-          white_read =
-              let (u, q, h) = went text w (S (drop s.at text)) (λ k t e. S_stops (λ k. k ≢ 0) (λ z. omega arith) (drop s.at text) t k e) d o in
-              word_read ∙ ap (λ o. onward o (λ u. further)) q
+    module _ (w : ℕ) (d : Came text (Ok w) (S (drop s text))) where
+      white_read : (r : Result Listed Fault) → CameTo Is text r (further (drop w text)) → Whole r
+      white_read r x = word_read r (came_onwards Is text (λ u. further) w (S (drop s text)) r d (λ u. x))
 
-          module _ (m : Step) (f : Came text m (mention known (drop w.at text))) where
-            pub no_mention : m.number ≢ 0 → Whole (record { number = m.number; at = m.at; count = count; many = many })
-            no_mention g = let (q, h) = failed text m (mention known (drop w.at text)) f g in rw (white_read, q) (refl, record { inside = h; rest = refl })
+      pub no_mention : (f : Fault) → Came text (Err f) (mention known (drop w text)) → Whole (Err f)
+      no_mention f g = white_read (Err f) (came_faulty Is text lastly f (mention known (drop w text)) g)
 
-            module _ (g : m.number ≡ 0) where
-              mentioned : mention known (drop w.at text) ≡ ok (name_at text w.at) (drop m.at text)
-              mentioned =
-                  let (a, q, h) = went text m (mention known (drop w.at text))
-                  (λ k t e. tested_stops (λ k. k ≢ 0) known 14 (λ z. omega arith) (name_stops (λ k. k ≢ 0) (λ z. omega arith)) (drop w.at text) t k e) f g in
-                  q ∙ ap (λ b. ok b (drop m.at text)) (by (begins is_first (drop w.at text)) a q)
-                where
-                  pick : (b : Bool) (a : Name)
-                      → cond b (ok (run is_more (drop w.at text)) (past is_more (drop w.at text))) (stop 14 (drop w.at text)) ≡ ok a (drop m.at text)
-                      → a ≡ name_at text w.at
-                  pick true a q = cc
-                  pick false a q = let z : ◌≡◌ {A = ℕ} 0 1 = cc in absurd (omega arith)
+      module _ (m : ℕ) (g : Came text (Ok m) (mention known (drop w text))) where
+        mentioned : mention known (drop w text) ≡ ok (name_at text w) (drop m text)
+        mentioned = by (begins is_first (drop w text)) g
+          where
+            pick : (b : Bool) → Came text (Ok m) (cond b (ok (run is_more (drop w text)) (past is_more (drop w text))) (stop 14 (drop w text)))
+                → cond b (ok (run is_more (drop w text)) (past is_more (drop w text))) (stop 14 (drop w text)) ≡ ok (name_at text w) (drop m text)
+            pick true a = ap (λ t. ok (name_at text w) t) (sym a.rest)
+            pick false a = absurd a
 
-                  by : (b : Bool) (a : Name)
-                      → onward (cond b (ok (run is_more (drop w.at text)) (past is_more (drop w.at text))) (stop 14 (drop w.at text)))
-                      (λ a r. cond (known a) (ok a r) (stop 14 (drop w.at text))) ≡ ok a (drop m.at text)
-                      → a ≡ name_at text w.at
-                  by true a q = pick (known (name_at text w.at)) a q
-                  by false a q = let z : ◌≡◌ {A = ℕ} 0 1 = cc in absurd (omega arith)
+            by : (b : Bool)
+                → Came text (Ok m) (onward (cond b (ok (run is_more (drop w text)) (past is_more (drop w text))) (stop 14 (drop w text))) (λ a r. cond (known a) (ok a r) (stop 14 (drop w text))))
+                → onward (cond b (ok (run is_more (drop w text)) (past is_more (drop w text))) (stop 14 (drop w text))) (λ a r. cond (known a) (ok a r) (stop 14 (drop w text)))
+                ≡ ok (name_at text w) (drop m text)
+            by true a = pick (known (name_at text w)) a
+            by false a = absurd a
 
-              pub all_listed : (r : Listed) → ElementCame text upto w.at exit heads rows r (definitions text upto w.at (drop m.at text)) → Whole r
-              all_listed r x =
-                  rw (white_read, mentioned, ← any_same known old (name_at text w.at) (suc (length (drop m.at text))) [] (drop m.at text))
-                  (by (definitions text upto w.at (drop m.at text)) x)
-                where
-                  by : (z : Read (List Definition)) → ElementCame text upto w.at exit heads rows r z → ListedCame text upto exit heads rows r (onward z (λ ds. pure (attlist (name_at text w.at) ds)))
-                  by (ok ds t) y = y
-                  by (stop k t) y = y
+        pub all_listed : (r : Result Listed Fault) → ElementCame text upto w exit heads rows r (definitions text upto w (drop m text)) → Whole r
+        all_listed r x =
+            white_read r
+            (rw (mentioned, ← any_same known old (name_at text w) (suc (length (drop m text))) [] (drop m text)) (by r (definitions text upto w (drop m text)) x))
+          where
+            by : (r : Result Listed Fault) (z : Read (List Definition)) → ElementCame text upto w exit heads rows r z
+                → ListedCame text upto exit heads rows r (onward z (λ ds. pure (attlist (name_at text w) ds)))
+            by (Ok v) (ok ds t) y = y
+            by (Ok v) (stop k t) y = absurd y
+            by (Err f) (ok ds t) y = absurd y
+            by (Err f) (stop k t) y = y

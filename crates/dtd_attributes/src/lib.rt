@@ -2,12 +2,13 @@
 // names, one for each different name; what the element has from earlier ATTLISTs is found in the text again. Assumes nothing.
 #![tactic(auto)]
 
-ghost use Rattle.std.specs.Prelude.{◌≡◌, ◌≤◌, ◌<◌, length, drop, take};
+ghost use Rattle.std.specs.Prelude.{◌≡◌, ◌≤◌, ◌<◌, option_copied, length, drop, take};
 ghost use Rattle.paper.specs.Basics.{most_attributes};
+ghost use Rattle.paper.specs.Dtd.Letters.{is_white, begins};
 ghost use Rattle.paper.specs.Dtd.Reading.{due, attlist_decl};
 ghost use Rattle.dtd_laws.specs.Unique.{any};
 ghost use Rattle.dtd_words.specs.Words.{Came};
-ghost use Rattle.dtd_names.specs.Named.{names_at, known_by};
+ghost use Rattle.dtd_names.specs.Named.{known_in};
 ghost use Rattle.dtd_before.specs.Paths.{declared_to};
 ghost use Rattle.dtd_before.specs.Scans.{Ready};
 ghost use Rattle.dtd_heads.specs.Heads.{Heads};
@@ -15,28 +16,32 @@ ghost use Rattle.dtd_attributes.specs.Noting.{Noted};
 ghost use Rattle.dtd_attributes.specs.Adding.{greater_after, definitions, EndCame, Opened};
 ghost use Rattle.dtd_attributes.specs.Listed.{ElementCame, ListedCame};
 
-use dtd_definitions::{definition_at, white_at};
+use dtd_definitions::definition_at;
 use dtd_heads::{find_row, keep_row};
-use dtd_kinds::byte_at;
 use dtd_names::mention_at;
 use dtd_rows::{Row, with_definition};
-use dtd_words::{Step, is_white, skip_white, word_at};
+use dtd_words::{Fault, byte_at, is_white, skip_white, white_at, word_at};
+
+// Whether white space stands there.
+fn white_here(text: &[u8], at: usize) -> bool
+    ensures { result ≡ begins is_white (drop at text.now) }
+{
+    text.get(at).is_some_and(|b| is_white(*b))
+}
 
 // Whether a definition is due: white space, and then something else than `>`.
 fn due_at(text: &[u8], at: usize) -> bool
     requires { at ≤ length text.now }
     ensures { result ≡ due any (drop at text.now) }
 {
-    if at < text.len() {
-        if is_white(text[at]) {
-            return !byte_at(text, skip_white(text, at), 62);
-        }
+    if white_here(text, at) {
+        return !byte_at(text, skip_white(text, at), b'>');
     }
     false
 }
 
-// White space or none, and `>`.
-fn greater_after(text: &[u8], at: usize) -> Step
+// White space or none, and `>`: the place behind it.
+fn greater_after(text: &[u8], at: usize) -> Result<usize, Fault>
     requires { at ≤ length text.now }
     ensures { Came text.now result (greater_after (drop at text.now)) }
 {
@@ -55,11 +60,9 @@ fn note_name(attributes: &mut [usize], count: usize, attribute: usize, place: us
     count + 1
 }
 
-// Definitions that were read: 0, the place behind them, how many names of attributes there are and the element's row; or a refusal's
-// number and the place of what is at fault.
+// Definitions: the place behind them, how many names of attributes there are and the element's row.
 #[derive(Clone, Copy)]
 struct Ended {
-    number: u32,
     at: usize,
     count: usize,
     row: Row,
@@ -74,7 +77,7 @@ fn definitions_at(
     count: usize,
     at: usize,
     before: Row,
-) -> Ended
+) -> Result<Ended, Fault>
     requires { Opened text.now upto e attributes.old count at before }
     ensures { EndCame text.now upto e attributes.new result (definitions text.now upto e (drop at text.now)) }
 {
@@ -82,33 +85,22 @@ fn definitions_at(
     let mut n = count;
     let mut i = at;
     while due_at(text, i) {
-        let d = definition_at(text, i, attributes, n, row);
-        if d.number != 0 {
-            return Ended {
-                number: d.number,
-                at: d.at,
-                count: n,
-                row,
-            };
-        }
+        let d = definition_at(text, i, &attributes[..n], row)?;
         row = with_definition(row, d.attribute, d.kind, d.status);
         n = note_name(attributes, n, d.attribute, d.place);
         i = d.at;
     }
-    let s = greater_after(text, i);
-    Ended {
-        number: s.number,
-        at: s.at,
+    let behind = greater_after(text, i)?;
+    Ok(Ended {
+        at: behind,
         count: n,
         row,
-    }
+    })
 }
 
-// An ATTLIST that was read: 0, the place behind it, how many names of attributes there are and how many elements stand in the table; or
-// a refusal's number and the place of what is at fault.
+// An ATTLIST: the place behind it, how many names of attributes there are and how many elements stand in the table.
 #[derive(Clone, Copy)]
 pub struct Listed {
-    pub number: u32,
     pub at: usize,
     pub count: usize,
     pub many: usize,
@@ -125,21 +117,24 @@ fn element_at(
     heads: &mut [usize],
     many: usize,
     rows: &mut [u64],
-) -> Listed
-    requires { (at ≤ length text.now) × (most_attributes ≤ length attributes.old) × Ready text.now upto attributes.old count × Heads text.now (declared_to text.now upto) heads.old many rows.old }
+) -> Result<Listed, Fault>
+    requires inside { at ≤ length text.now }
+    requires long { most_attributes ≤ length attributes.old }
+    requires few { count ≤ most_attributes }
+    requires ready { Ready text.now upto (take count attributes.old) }
+    requires heads { Heads text.now (declared_to text.now upto) heads.old many rows.old }
     ensures { ElementCame text.now upto e attributes.new heads.new rows.new result (definitions text.now upto e (drop at text.now)) }
 {
-    let f = find_row(text, upto, e, attributes, count, heads, many, rows);
+    let f = find_row(text, upto, e, &attributes[..count], heads, many, rows);
     let before = f.row;
-    let x = definitions_at(text, upto, e, attributes, count, at, before);
+    let x = definitions_at(text, upto, e, attributes, count, at, before)?;
     let row = x.row;
     let m = keep_row(heads, many, rows, f.place, e, row);
-    Listed {
-        number: x.number,
+    Ok(Listed {
         at: x.at,
         count: x.count,
         many: m,
-    }
+    })
 }
 
 // An ATTLIST, behind `<!`. `upto` is the place of `<!`; the first `count` of `attributes` are the places of the attributes' names up to
@@ -150,42 +145,20 @@ pub fn attlist_at(
     upto: usize,
     attributes: &mut [usize],
     count: usize,
-    strict: bool,
-    known: &[usize],
-    known_count: usize,
+    known: Option<&[usize]>,
     heads: &mut [usize],
     many: usize,
     rows: &mut [u64],
-) -> Listed
-    requires { (at ≤ length text.now) × (most_attributes ≤ length attributes.old) × Ready text.now upto attributes.old count × (known_count ≤ length known.now) × Heads text.now (declared_to text.now upto) heads.old many rows.old }
-    ensures { ListedCame text.now upto attributes.new heads.new rows.new result (attlist_decl (known_by strict (names_at text.now (take known_count known.now))) (declared_to text.now upto) (drop at text.now)) }
+) -> Result<Listed, Fault>
+    requires inside { at ≤ length text.now }
+    requires long { most_attributes ≤ length attributes.old }
+    requires few { count ≤ most_attributes }
+    requires ready { Ready text.now upto (take count attributes.old) }
+    requires heads { Heads text.now (declared_to text.now upto) heads.old many rows.old }
+    ensures { ListedCame text.now upto attributes.new heads.new rows.new result (attlist_decl (known_in text.now (option_copied known.entry)) (declared_to text.now upto) (drop at text.now)) }
 {
-    let s = word_at(text, at, b"ATTLIST");
-    if s.number != 0 {
-        return Listed {
-            number: s.number,
-            at: s.at,
-            count,
-            many,
-        };
-    }
-    let w = white_at(text, s.at);
-    if w.number != 0 {
-        return Listed {
-            number: w.number,
-            at: w.at,
-            count,
-            many,
-        };
-    }
-    let n = mention_at(text, w.at, strict, known, known_count);
-    if n.number != 0 {
-        return Listed {
-            number: n.number,
-            at: n.at,
-            count,
-            many,
-        };
-    }
-    element_at(text, upto, w.at, attributes, count, n.at, heads, many, rows)
+    let word = word_at(text, at, b"ATTLIST")?;
+    let e = white_at(text, word)?;
+    let behind = mention_at(text, e, known)?;
+    element_at(text, upto, e, attributes, count, behind, heads, many, rows)
 }

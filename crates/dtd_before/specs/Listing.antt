@@ -1,16 +1,18 @@
 -- Along the definitions of the element's ATTLIST: turns of the loop. Assumes nothing.
-use Rattle.std.specs.Prelude.{◌≡◌, refl, Bool, true, false, ◌&&◌, List, [], ◌∷◌, ◌++◌, ℕ, ◌+◌, ◌-◌, ◌≤◌, ◌<◌, eqb, length, drop, take}
-use Rattle.std.proofs.Common.{sym, ap, subst, ◌∙◌, append_assoc, append-nil, arith, ltb-true, length-drop, length-take-le}
+use Rattle.std.specs.Prelude.{◌≡◌, refl, Bool, true, false, ◌&&◌, Result, Ok, Err, List, [], ◌∷◌, ◌++◌, ℕ, ◌+◌, ◌-◌, ◌≤◌, ◌<◌, eqb, length, drop}
+use Rattle.std.specs.Result.{IsOk}
+use Rattle.std.proofs.Common.{sym, ap, subst, ◌∙◌, append_assoc, append-nil, arith, ltb-true, length-drop}
 use Rattle.std.proofs.Math.Bool.{and-eq-true_iff}
 use Rattle.std.proofs.lemmas.Bool.{not-true}
 use Rattle.std.proofs.lemmas.List.{length-map}
 use Rattle.paper.specs.Basics.{most_attributes}
+use Rattle.paper.specs.Codes.{kind_of, status_of}
 use Rattle.paper.specs.Dtd.Letters.{Name, is_white, is_more, begins, past, among, greater}
 use Rattle.paper.specs.Dtd.Declarations.{Kind, Status, Definition, Declaration, attlist, defined_for, attribute_names}
 use Rattle.paper.specs.Dtd.Numbering.{number_in, kind_number, status_number}
 use Rattle.paper.specs.Dtd.Limits.{definition_kept, definitions_kept}
 use Rattle.paper.specs.Dtd.Grammar as G
-use Rattle.paper.specs.Dtd.Readers.{Read, ok, kind, status}
+use Rattle.paper.specs.Dtd.Readers.{Read, stop, ok, kind, status}
 use Rattle.paper.specs.Dtd.Reading.{new_attribute, room_for_attribute, id_allowed}
 use Rattle.basic_laws.specs.Bools.{clash}
 use Rattle.dtd_laws.specs.Unique.{any}
@@ -20,6 +22,7 @@ use Rattle.dtd_laws.specs.Contents.{past_white}
 use Rattle.dtd_laws.specs.Attributes.{white_more, definition_strict}
 use Rattle.dtd_laws.specs.Kept.{words}
 use Rattle.dtd_laws.specs.Names.{own_for, number_below, word_named, names_different}
+use Rattle.dtd_words.specs.declared.Fault.{Fault}
 use Rattle.dtd_words.specs.Places.{At}
 use Rattle.dtd_names.specs.Named.{name_at, names_at}
 use Rattle.dtd_kinds.specs.declared.Kinded.{Kinded}
@@ -34,17 +37,26 @@ use Rattle.dtd_before.specs.Scans.{Ready, Scan}
 use Rattle.dtd_before.specs.Defining.{named, word_here, Mid}
 
 -- what the readers of a kind and of a status came to, where they read one
-kind_is : (text t r : List ℕ) (k : Kinded) (y : Kind) → kind t ≡ ok y r → KindCame text k (kind t) → At text k.at r × (k.kind ≡ kind_number y)
-kind_is text t r k y p c = by (kind t) p c
-  where
-    by : (o : Read Kind) → o ≡ ok y r → KindCame text k o → At text k.at r × (k.kind ≡ kind_number y)
-    by o p c = let (i, a, z) = rw p at c in (a, z)
+kind_is : (text t r : List ℕ) (k : Kinded) (y : Kind) → kind t ≡ ok y r → KindCame text (Ok k) (kind t) → At text k.at r × (kind_of k.kind ≡ kind_number y)
+kind_is text t r k y p c = rw p at c
 
-status_is : (text t r : List ℕ) (k : Stated) (y : Status) → status t ≡ ok y r → StatusCame text k (status t) → At text k.at r × (k.status ≡ status_number y)
-status_is text t r k y p c = by (status t) p c
+status_is : (text t r : List ℕ) (k : Stated) (y : Status) → status t ≡ ok y r → StatusCame text (Ok k) (status t) → At text k.at r × (status_of k.status ≡ status_number y)
+status_is text t r k y p c = rw p at c
+
+kind_taken : (text t r : List ℕ) (k : Result Kinded Fault) (y : Kind) → kind t ≡ ok y r → KindCame text k (kind t) → IsOk k
+kind_taken text t r (Ok k) y p c = refl
+kind_taken text t r (Err f) y p c = absurd (rw p at c)
+
+status_taken : (text t r : List ℕ) (k : Result Stated Fault) (y : Status) → status t ≡ ok y r → StatusCame text k (status t) → IsOk k
+status_taken text t r (Ok k) y p c = refl
+status_taken text t r (Err f) y p c = absurd (rw p at c)
+
+pub kind_within : (text : List ℕ) (k : Kinded) (kr : Result Kinded Fault) (o : Read Kind) → kr ≡ Ok k → KindCame text kr o → k.at ≤ length text
+kind_within text k kr o e c = by o (rw e at c)
   where
-    by : (o : Read Status) → o ≡ ok y r → StatusCame text k o → At text k.at r × (k.status ≡ status_number y)
-    by o p c = let (i, a, z) = rw p at c in (a, z)
+    by : (o : Read Kind) → KindCame text (Ok k) o → k.at ≤ length text
+    by (ok y s) c = c.0.inside
+    by (stop n s) c = absurd c
 
 module _ (text : List ℕ) (upto e : ℕ) where
   abbrev names : List Name
@@ -99,14 +111,14 @@ module _ (text : List ℕ) (upto e : ℕ) where
     pub record Defined (d : Definition) (ds : List Definition) (k : Kinded) (s : Stated) : Type 0 where
       pub inside : s.at ≤ length text
       pub name : name_at text a ≡ d.name
-      pub kind_is : k.kind ≡ kind_number d.kind
-      pub status_is : s.status ≡ status_number d.status
+      pub kind_is : kind_of k.kind ≡ kind_number d.kind
+      pub status_is : status_of s.status ≡ status_number d.status
       pub spelled : G.att_defs ds (drop s.at text) m.r
       pub clear : beyond (drop s.at text) ≡ beyond (drop i text)
       pub less : length (drop s.at text) < length (drop i text)
 
     defined_here : (d : Definition) (ds : List Definition) (k : Kinded) (s : Stated) → G.att_defs (d ∷ ds) (drop i text) m.r
-        → KindCame text k (kind (past is_white (past is_more (drop a text)))) → StatusCame text s (status (past is_white (drop k.at text)))
+        → KindCame text (Ok k) (kind (past is_white (past is_more (drop a text)))) → StatusCame text (Ok s) (status (past is_white (drop k.at text)))
         → Defined d ds k s
     defined_here d ds k s (t, (t1, b, (t2, f, (t3, h, (t4, j, (t5, u, v))))), r) kc sc =
         let (n1, n2) = named d.name t1 t2 f in
@@ -127,12 +139,12 @@ module _ (text : List ℕ) (upto e : ℕ) where
         }
 
     module _ (p : g ≡ false) where
-      pub number_small : (attributes : List ℕ) (count z : ℕ) → Ready text upto attributes count
-          → z ≡ number_in (names_at text (take count attributes)) (name_at text a) → z < most_attributes
-      number_small attributes count z o f = by m.ds m.spelled m.left
+      pub number_small : (attributes : List ℕ) (z : ℕ) → Ready text upto attributes
+          → z ≡ number_in (names_at text attributes) (name_at text a) → z < most_attributes
+      number_small attributes z o f = by m.ds m.spelled m.left
         where
-          long : length names ≡ count
-          long = ap length (sym o.alike) ∙ length-map (take count attributes) (name_at text) ∙ length-take-le count attributes o.fits
+          long : length names ≡ length attributes
+          long = ap length (sym o.alike) ∙ length-map attributes (name_at text)
 
           by : (ds : List Definition) → G.att_defs ds (drop i text) m.r
               → Path any (m.done ++ attlist n (m.own ++ ds) ∷ []) m.r (declared_to text upto) (drop upto text) → z < most_attributes
@@ -143,8 +155,42 @@ module _ (text : List ℕ) (upto e : ℕ) where
               let v : z ≡ number_in names d.name = f ∙ rw (o.alike, x.rest, past_white s.1, (named d.name t1 t2 b).0) refl in
               omega (arith, long)
 
-      module _ (k : Kinded) (s : Stated) (kc : KindCame text k (kind (past is_white (past is_more (drop a text)))))
-          (sc : StatusCame text s (status (past is_white (drop k.at text)))) where
+      pub kind_ok : (r : Result Kinded Fault) → KindCame text r (kind (past is_white (past is_more (drop a text)))) → IsOk r
+      kind_ok r kc = by m.ds m.spelled
+        where
+          by : (ds : List Definition) → G.att_defs ds (drop i text) m.r → IsOk r
+          by [] (t, y, b) = clash (ap (begins (eqb greater)) b) (sym (front t y) ∙ p)
+          by (d ∷ ds) ((t, (t1, b, (t2, f, (t3, h, (t4, j, (t5, u, v))))), z)) =
+              let (n1, n2) = named d.name t1 t2 f in
+              let w : drop a text ≡ t1 = x.rest ∙ past_white b.1 in
+              let y : past is_white (past is_more (drop a text)) ≡ t3 = rw (w, n2) (past_white h.1) in
+              kind_taken text t3 t4 r d.kind ((kind_exact {n = length t3}).takes (omega arith) (j, white_more t4 u.0)) (rw y at kc)
+
+      pub status_ok : (k : Kinded) (kr : Result Kinded Fault) → kr ≡ Ok k → KindCame text kr (kind (past is_white (past is_more (drop a text))))
+          → (r : Result Stated Fault) → StatusCame text r (status (past is_white (drop k.at text))) → IsOk r
+      status_ok k kr e kc' r sc = by m.ds m.spelled
+        where
+          kc : KindCame text (Ok k) (kind (past is_white (past is_more (drop a text))))
+          kc = rw e at kc'
+
+          by : (ds : List Definition) → G.att_defs ds (drop i text) m.r → IsOk r
+          by [] (t, y, b) = clash (ap (begins (eqb greater)) b) (sym (front t y) ∙ p)
+          by (d ∷ ds) ((t, (t1, b, (t2, f, (t3, h, (t4, j, (t5, u, v))))), z)) =
+              let (n1, n2) = named d.name t1 t2 f in
+              let w : drop a text ≡ t1 = x.rest ∙ past_white b.1 in
+              let y : past is_white (past is_more (drop a text)) ≡ t3 = rw (w, n2) (past_white h.1) in
+              let (k1, k2) = kind_is text t3 t4 k d.kind ((kind_exact {n = length t3}).takes (omega arith) (j, white_more t4 u.0)) (rw y at kc) in
+              let q : past is_white (drop k.at text) ≡ t5 = rw k1.rest (past_white u.1) in
+              status_taken text t5 t r d.status ((status_exact {n = length t5}).takes (omega arith) v) (rw q at sc)
+
+      module _ (k : Kinded) (s : Stated) (kr : Result Kinded Fault) (ke : kr ≡ Ok k) (kc' : KindCame text kr (kind (past is_white (past is_more (drop a text)))))
+          (sr : Result Stated Fault) (se : sr ≡ Ok s) (sc' : StatusCame text sr (status (past is_white (drop k.at text)))) where
+        kc : KindCame text (Ok k) (kind (past is_white (past is_more (drop a text))))
+        kc = rw ke at kc'
+
+        sc : StatusCame text (Ok s) (status (past is_white (drop k.at text)))
+        sc = rw se at sc'
+
         pub listing_less : length text - s.at < length text - i
         listing_less = by m.ds m.spelled
           where
@@ -152,9 +198,9 @@ module _ (text : List ℕ) (upto e : ℕ) where
             by [] (t, y, b) = clash (ap (begins (eqb greater)) b) (sym (front t y) ∙ p)
             by (d ∷ ds) y = let w = (defined_here d ds k s y kc sc).less in omega (arith, length-drop i text, length-drop s.at text)
 
-        pub listing_more : (attributes : List ℕ) (count z : ℕ) (row' : Row) → Ready text upto attributes count
-            → z ≡ number_in (names_at text (take count attributes)) (name_at text a) → row' ≡ with_definition row z k.kind s.status → Listing at s.at row'
-        listing_more attributes count z row' o f v = by m.ds m.spelled m.keeps m.left
+        pub listing_more : (attributes : List ℕ) (z : ℕ) (row' : Row) → Ready text upto attributes
+            → z ≡ number_in (names_at text attributes) (name_at text a) → row' ≡ with_definition row z (kind_of k.kind) (status_of s.status) → Listing at s.at row'
+        listing_more attributes z row' o f v = by m.ds m.spelled m.keeps m.left
           where
             by : (ds : List Definition) → G.att_defs ds (drop i text) m.r → definitions_kept m.done n m.own ds ≡ true
                 → Path any (m.done ++ attlist n (m.own ++ ds) ∷ []) m.r (declared_to text upto) (drop upto text) → Listing at s.at row'

@@ -1,5 +1,6 @@
 -- Along the text before a place, turn by turn, with the row of one element's attributes. Assumes nothing.
-use Rattle.std.specs.Prelude.{◌≡◌, refl, ◌⊎◌, Bool, true, false, List, [], ◌∷◌, ◌++◌, ℕ, suc, ◌+◌, ◌-◌, ◌≤◌, ◌<◌, eqb, length, drop, get_or, take}
+use Rattle.std.specs.Prelude.{◌≡◌, refl, ◌⊎◌, Bool, true, false, Result, Ok, Err, List, [], ◌∷◌, ◌++◌, ℕ, suc, ◌+◌, ◌-◌, ◌≤◌, ◌<◌, eqb, length, drop, get_or}
+use Rattle.std.specs.Result.{IsOk}
 use Rattle.std.proofs.Common.{sym, ap, subst, ◌∙◌, inl, inr, append-nil, arith, length-drop, length-append, drop-drop}
 use Rattle.paper.specs.Basics.{most_attributes}
 use Rattle.paper.specs.Dtd.Letters.{Name, is_white, begins, past, start_comment, start_element, start_attlist}
@@ -15,7 +16,7 @@ use Rattle.dtd_laws.specs.Exact.{bounded_exact}
 use Rattle.dtd_laws.specs.Comments.{Within, inside_exact}
 use Rattle.dtd_laws.specs.Kept.{for_append}
 use Rattle.dtd_laws.specs.Texts.{Piece, turn_exact}
-use Rattle.dtd_words.specs.declared.Step.{Step}
+use Rattle.dtd_words.specs.declared.Fault.{Fault}
 use Rattle.dtd_words.specs.Places.{At, begins_at}
 use Rattle.dtd_words.specs.Words.{Came}
 use Rattle.dtd_names.specs.Named.{name_at, names_at}
@@ -24,12 +25,11 @@ use Rattle.dtd_rows.specs.Rows.{no_row, RowOf, row_none}
 use Rattle.dtd_before.specs.Ends.{beyond, declaration_end}
 use Rattle.dtd_before.specs.Paths.{Path, here, step, turn_less, path_less, declared_to, Reached}
 
--- The reader has come to a place, and the first `count` of the places are those of the attributes' names up to there.
-pub record Ready (text : List ℕ) (upto : ℕ) (attributes : List ℕ) (count : ℕ) : Type 0 where
+-- The reader has come to a place, and the places are those of the attributes' names up to there.
+pub record Ready (text : List ℕ) (upto : ℕ) (attributes : List ℕ) : Type 0 where
   pub reached : Reached text upto
-  pub fits : count ≤ length attributes
-  pub few : count ≤ most_attributes
-  pub alike : names_at text (take count attributes) ≡ attribute_names (declared_to text upto)
+  pub few : length attributes ≤ most_attributes
+  pub alike : names_at text attributes ≡ attribute_names (declared_to text upto)
 
 first_turn : {old old' : List Declaration} {s s' : List ℕ} → Path any old s old' s' → length s' < length s
     → (new : List Declaration) × (r : List ℕ) × (turn any old s ≡ ok new r) × Path any (old ++ new) r old' s'
@@ -159,22 +159,36 @@ module _ (text : List ℕ) (upto e : ℕ) where
           by (inr (element n x, r, (t, a, u), k, f, l)) = clash (sym o ∙ y) (ap (begins (eqb 45)) (further 2 (start_element ++ t) a))
           by (inr (attlist n x, r, (t, a, u), k, f, l)) = clash (sym o ∙ y) (ap (begins (eqb 45)) (further 2 (start_attlist ++ t) a))
 
-      module _ (y : b ≡ true) (s : Step) (x : Came text s (bounded inside (drop (i + 4) text))) where
-        behind_note : At text s.at (note y).1
-        behind_note =
+      module _ (y : b ≡ true) (s : Result ℕ Fault) (x : Came text s (bounded inside (drop (i + 4) text))) where
+        note_read : Came text s (ok (tt {0}) (note y).1)
+        note_read =
             let (t, r, a, u, v, l) = note y in
             let f = further 4 (start_comment ++ t) a in
             let g = (bounded_exact {n = length t} inside (λ n. inside_exact (suc n))).takes {a = tt} {s = t} {r = r} (omega arith) u in
             came (bounded inside (drop (i + 4) text)) (ap (bounded inside) f ∙ g) x
           where
-            came : (z : Read (Unit {0})) → z ≡ ok tt (note y).1 → Came text s z → At text s.at (note y).1
-            came z g x = (rw g at x).1
+            came : (z : Read (Unit {0})) → z ≡ ok tt (note y).1 → Came text s z → Came text s (ok (tt {0}) (note y).1)
+            came z g x = rw g at x
 
-        pub note_scan : Scan (drop s.at text) row
-        note_scan = let (t, r, a, u, v, l) = note y in moved s.at r row behind_note v
+        pub note_ok : IsOk s
+        note_ok = by s note_read
+          where
+            by : (s : Result ℕ Fault) → Came text s (ok (tt {0}) (note y).1) → IsOk s
+            by (Ok j) x = refl
+            by (Err f) x = absurd x
 
-        pub note_less : length text - s.at < length text - i
-        note_less = let (t, r, a, u, v, l) = note y in nearer i s.at r behind_note l
+        module _ (j : ℕ) (k : s ≡ Ok j) where
+          behind_note : At text j (note y).1
+          behind_note = rw k at note_read
+
+          pub note_inside : j ≤ length text
+          note_inside = behind_note.inside
+
+          pub note_scan : Scan (drop j text) row
+          note_scan = let (t, r, a, u, v, l) = note y in moved j r row behind_note v
+
+          pub note_less : length text - j < length text - i
+          note_less = let (t, r, a, u, v, l) = note y in nearer i j r behind_note l
 
       -- x: whether an A stands there
       module _ (y : b ≡ false) where

@@ -1,8 +1,9 @@
 -- To behind the next `>`, and to what stands behind a name: turns and steps along a text. Assumes nothing.
-use Rattle.std.specs.Prelude.{◌≡◌, refl, ◌≢◌, List, ◌∷◌, ℕ, suc, ◌+◌, ◌≤◌, ◌<◌, length, drop, get_or}
+use Rattle.std.specs.Prelude.{◌≡◌, refl, ◌≢◌, Result, List, ◌∷◌, ℕ, suc, ◌+◌, ◌≤◌, ◌<◌, length, drop, get_or}
 use Rattle.std.proofs.Common.{sym, ap, ◌∙◌, arith, add-one, eq-eqb, ne_eqb, drop_of_length-le, drop-cons}
 use Rattle.paper.specs.Dtd.Letters.{is_white, is_more, past, greater}
 use Rattle.paper.specs.Dtd.Readers.{kind, status}
+use Rattle.dtd_words.specs.declared.Fault.{Fault}
 use Rattle.dtd_words.specs.Places.{At}
 use Rattle.dtd_kinds.specs.declared.Kinded.{Kinded}
 use Rattle.dtd_kinds.specs.declared.Stated.{Stated}
@@ -21,10 +22,11 @@ module _ (text : List ℕ) (at : ℕ) where
   ahead_begun h = record { inside = h; alike = refl }
 
   module _ (i : ℕ) (c : Ahead text at i) where
-    pub ahead_none : length text ≤ i → At text i (beyond (drop at text))
+    pub ahead_none : length text ≤ i → At text (length text) (beyond (drop at text))
     ahead_none h =
         let e = drop_of_length-le text h in
-        record { inside = c.inside; rest = e ∙ ap beyond (sym e) ∙ sym c.alike }
+        let l : length text ≤ length text = omega arith in
+        record { inside = l; rest = drop_of_length-le text l ∙ ap beyond (sym e) ∙ sym c.alike }
 
     module _ (h : i < length text) where
       past_this : greater ≡ get_or text i 0 → beyond (get_or text i 0 ∷ drop (suc i) text) ≡ drop (suc i) text
@@ -48,10 +50,10 @@ module _ (text : List ℕ) (at : ℕ) where
 -- ---- behind a name, and behind white space
 
 module _ (text : List ℕ) (at : ℕ) where
-  pub kind_behind : (p q : ℕ) (r : Kinded) → At text p (past is_more (drop at text)) → At text q (past is_white (drop p text)) → KindCame text r (kind (drop q text))
+  pub kind_behind : (p q : ℕ) (r : Result Kinded Fault) → At text p (past is_more (drop at text)) → At text q (past is_white (drop p text)) → KindCame text r (kind (drop q text))
       → KindCame text r (kind (past is_white (past is_more (drop at text))))
   kind_behind p q r a b c = rw (← a.rest, ← b.rest) c
 
-  pub status_there : (q : ℕ) (r : Stated) → At text q (past is_white (drop at text)) → StatusCame text r (status (drop q text))
+  pub status_there : (q : ℕ) (r : Result Stated Fault) → At text q (past is_white (drop at text)) → StatusCame text r (status (drop q text))
       → StatusCame text r (status (past is_white (drop at text)))
   status_there q r b c = rw (← b.rest) c

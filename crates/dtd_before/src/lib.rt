@@ -16,29 +16,26 @@ ghost use Rattle.dtd_before.specs.Scans.{Ready, Scan, Due};
 ghost use Rattle.dtd_before.specs.Defining.{Mid};
 
 use dtd_comments::comment_end;
-use dtd_kinds::{Kinded, Stated, byte_at, kind_at, status_at};
+use dtd_kinds::{Kinded, Stated, kind_at, status_at};
 use dtd_names::{find_name, same_at};
 use dtd_rows::{Row, no_row, with_definition};
-use dtd_words::{is_white, name_end, skip_white};
+use dtd_words::{Fault, byte_at, is_white, name_end, skip_white};
 
 // Behind the next `>`, with which a declaration ends.
 fn past_greater(text: &[u8], at: usize) -> usize
     requires { at ≤ length text.now }
     ensures { At text.now result (beyond (drop at text.now)) }
 {
-    let mut i = at;
-    while i < text.len() {
-        let b = text[i];
-        i += 1;
-        if 62 == b {
-            return i;
+    for i in at..text.len() {
+        if b'>' == text[i] {
+            return i + 1;
         }
     }
-    i
+    text.len()
 }
 
 // The kind of the attribute whose name stands there.
-fn kind_of(text: &[u8], at: usize) -> Kinded
+fn kind_of(text: &[u8], at: usize) -> Result<Kinded, Fault>
     requires { at ≤ length text.now }
     ensures { KindCame text.now result (kind (past is_white (past is_more (drop at text.now)))) }
 {
@@ -46,7 +43,7 @@ fn kind_of(text: &[u8], at: usize) -> Kinded
 }
 
 // The status behind white space.
-fn status_behind(text: &[u8], at: usize) -> Stated
+fn status_behind(text: &[u8], at: usize) -> Result<Stated, Fault>
     requires { at ≤ length text.now }
     ensures { StatusCame text.now result (status (past is_white (drop at text.now))) }
 {
@@ -59,23 +56,22 @@ fn definitions_row(
     upto: usize,
     e: usize,
     attributes: &[usize],
-    count: usize,
     at: usize,
     before: Row,
 ) -> Row
-    requires { Ready text.now upto attributes.now count × (at ≤ length text.now) × Mid text.now upto e (drop at text.now) before }
+    requires { Ready text.now upto attributes.now × (at ≤ length text.now) × Mid text.now upto e (drop at text.now) before }
     ensures { Scan text.now upto e (beyond (drop at text.now)) result }
 {
     let mut row = before;
     let mut i = at;
     loop {
         let a = skip_white(text, i);
-        if byte_at(text, a, 62) {
+        if byte_at(text, a, b'>') {
             return row;
         }
-        let k = kind_of(text, a);
-        let s = status_behind(text, k.at);
-        let z = find_name(text, attributes, count, a);
+        let k = kind_of(text, a).unwrap();
+        let s = status_behind(text, k.at).unwrap();
+        let z = find_name(text, attributes, a);
         row = with_definition(row, z, k.kind, s.status);
         i = s.at;
     }
@@ -87,23 +83,22 @@ fn attlist_row(
     upto: usize,
     e: usize,
     attributes: &[usize],
-    count: usize,
     at: usize,
     before: Row,
 ) -> Row
-    requires { Ready text.now upto attributes.now count × (at ≤ length text.now) × Due text.now upto e (drop at text.now) before }
+    requires { Ready text.now upto attributes.now × (at ≤ length text.now) × Due text.now upto e (drop at text.now) before }
     ensures { Scan text.now upto e (beyond (drop at text.now)) result }
 {
     let a = skip_white(text, at);
     if same_at(text, a, e) {
-        return definitions_row(text, upto, e, attributes, count, name_end(text, a), before);
+        return definitions_row(text, upto, e, attributes, name_end(text, a), before);
     }
     before
 }
 
 // What the ATTLISTs before the place `upto` define for the element whose name stands at `e`.
-pub fn row_before(text: &[u8], upto: usize, e: usize, attributes: &[usize], count: usize) -> Row
-    requires { Ready text.now upto attributes.now count }
+pub fn row_before(text: &[u8], upto: usize, e: usize, attributes: &[usize]) -> Row
+    requires { Ready text.now upto attributes.now }
     ensures { RowOf (attribute_names (declared_to text.now upto)) (defined_for (name_at text.now e) (declared_to text.now upto)) result }
 {
     let mut row = no_row();
@@ -113,12 +108,12 @@ pub fn row_before(text: &[u8], upto: usize, e: usize, attributes: &[usize], coun
             i = skip_white(text, i);
             continue;
         }
-        if byte_at(text, i + 2, 45) {
-            i = comment_end(text, i + 4).at;
+        if byte_at(text, i + 2, b'-') {
+            i = comment_end(text, i + 4).unwrap();
             continue;
         }
-        if byte_at(text, i + 2, 65) {
-            row = attlist_row(text, upto, e, attributes, count, i + 9, row);
+        if byte_at(text, i + 2, b'A') {
+            row = attlist_row(text, upto, e, attributes, i + 9, row);
             i = past_greater(text, i);
             continue;
         }

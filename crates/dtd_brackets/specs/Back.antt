@@ -1,5 +1,5 @@
 -- Back from a place along the text, to find the brackets that are open there: turns of the loop. Assumes nothing.
-use Rattle.std.specs.Prelude.{◌≡◌, refl, ◌≢◌, cond, not, ◌&&◌, List, [], ◌∷◌, ◌++◌, ℕ, zero, suc, ◌+◌, ◌-◌, ◌*◌, ◌≤◌, ◌<◌, eqb, length, drop, get_or}
+use Rattle.std.specs.Prelude.{◌≡◌, refl, ◌≢◌, cond, ◌&&◌, List, [], ◌∷◌, ◌++◌, ℕ, zero, suc, ◌+◌, ◌-◌, ◌*◌, ◌≤◌, ◌<◌, eqb, length, drop, get_or}
 use Rattle.std.proofs.Common.{sym, ap, ◌∙◌, append-nil, append_assoc, arith, ne_eqb, drop-drop}
 use Rattle.std.proofs.Math.Seq.{drop-nil}
 use Rattle.paper.specs.Dtd.Letters.{opening, closing}

@@ -1,8 +1,7 @@
 -- The innermost brackets as one number, a digit to base 4 for each: a window on those that are open. Assumes nothing.
-use Rattle.std.specs.Prelude.{◌≡◌, refl, ◌≢◌, cond, not, ◌&&◌, ◌||◌, List, [], ◌∷◌, ◌++◌, ℕ, ◌+◌, ◌*◌, ◌/◌, ◌%◌, ◌≤◌, ◌<◌, eqb}
-use Rattle.std.proofs.Common.{ap, arith, ne_eqb}
-use Rattle.std.proofs.Math.Bool.{and-false}
-use Rattle.dtd_model_laws.specs.Walks.{Joint, free, commas, bars, joint_of, meets}
+use Rattle.std.specs.Prelude.{◌≡◌, refl, ◌≢◌, not, ◌&&◌, ◌||◌, List, [], ◌∷◌, ◌++◌, ℕ, ◌+◌, ◌*◌, ◌/◌, ◌%◌, ◌≤◌, ◌<◌, eqb}
+use Rattle.std.proofs.Common.{ap, arith}
+use Rattle.dtd_model_laws.specs.Walks.{Joint, free, commas, bars, meets}
 
 abbrev pub digit : Joint → ℕ
 digit free = 1
@@ -31,27 +30,6 @@ pub digit_some : (k : Joint) → (1 ≤ digit k) × (digit k ≤ 3)
 digit_some free = (omega arith, omega arith)
 digit_some commas = (omega arith, omega arith)
 digit_some bars = (omega arith, omega arith)
-
--- by the byte
-pub digit_comma : (c : ℕ) → c ≡ 44 → 2 ≡ digit (joint_of c)
-digit_comma c p = rw p
-
-pub digit_bar : (c : ℕ) → c ≡ 124 → 3 ≡ digit (joint_of c)
-digit_bar c p = rw p
-
-pub digit_other : (c : ℕ) → c ≢ 44 → c ≢ 124 → 1 ≡ digit (joint_of c)
-digit_other c p q = rw (ne_eqb c 44 p, ne_eqb c 124 q)
-
--- looked at from behind: d is the digit of the byte
-module _ (level now d : ℕ) where
-  pub outside_level : level ≢ 0 → now ≡ cond (eqb level 0 && eqb now 1) d now
-  outside_level p = rw (ne_eqb level 0 p)
-
-  pub not_last : now ≢ 1 → now ≡ cond (eqb level 0 && eqb now 1) d now
-  not_last p = rw (ne_eqb now 1 p, and-false (eqb level 0))
-
-  pub last : (r : ℕ) → level ≡ 0 → now ≡ 1 → r ≡ d → r ≡ cond (eqb level 0 && eqb now 1) d now
-  last r p q e = rw (p, q) e
 
 -- whether a separator may stand in a bracket, by their digits
 pub meets_digits : (k j : Joint) → not (eqb (digit j) 1) && (eqb (digit k) 1 || eqb (digit k) (digit j)) ≡ meets k j

@@ -4,42 +4,57 @@
 // yet, 2 commas, 3 bars. Those outside them are found again by looking back along the text. Assumes nothing.
 #![tactic(auto)]
 
-ghost use Rattle.std.specs.Prelude.{◌≡◌, cond, ◌&&◌, ◌||◌, ◌≤◌, eqb, length};
+ghost use Rattle.std.specs.Prelude.{◌≡◌, cond, ◌&&◌, ◌||◌, ◌%◌, ◌≤◌, eqb, Some, length};
 ghost use Rattle.dtd_model_laws.specs.Walks.{joint_of};
 ghost use Rattle.dtd_brackets.specs.Stacks.{open_at};
 ghost use Rattle.dtd_brackets.specs.Windows.{digit, Known, Pushed};
+ghost use Rattle.dtd_brackets.specs.Separators.{joint};
 ghost use Rattle.dtd_brackets.specs.Back.{Recovered};
 
 // Below it there is room for one more digit.
-const ROOM: u64 = 1152921504606846976;
+const ROOM: u64 = 1 << 60;
 // Fifteen digits: so many are looked for at a time.
-const ENOUGH: u64 = 1073741824;
+const ENOUGH: u64 = 1 << 30;
 
-// The digit of a separator; 1 for any other byte.
-pub fn joint_of(b: u8) -> u64
-    ensures value { result ≡ digit (joint_of b) }
-    ensures upper_bound { result ≤ 3 }
-{
-    if b == 44 {
-        return 2;
-    }
-    if b == 124 {
-        return 3;
-    }
-    1
+// The separators of a bracket.
+#[derive(Clone, Copy, PartialEq, Eq)]
+pub enum Separator {
+    Comma,
+    Bar,
 }
 
-// The digit of a bracket, looked at from behind: its last separator decides.
-fn looked_at(b: u8, level: usize, now: u64) -> u64
-    ensures { result ≡ cond (eqb level 0 && eqb now 1) (digit (joint_of b)) now }
+// The separator that a byte is.
+pub fn separator_of(b: u8) -> Option<Separator>
+    ensures { joint result ≡ joint_of b }
 {
-    if level != 0 {
-        return now;
+    match b {
+        b',' => Some(Separator::Comma),
+        b'|' => Some(Separator::Bar),
+        _ => None,
     }
-    if now != 1 {
-        return now;
+}
+
+// The digit of a bracket, by its separator.
+pub fn digit_of(separator: Option<Separator>) -> u64
+    ensures value { result ≡ digit (joint separator) }
+    ensures upper_bound { result ≤ 3 }
+{
+    match separator {
+        None => 1,
+        Some(Separator::Comma) => 2,
+        Some(Separator::Bar) => 3,
     }
-    joint_of(b)
+}
+
+// The separator of a bracket, looked at from behind: its last one decides.
+fn looked_at(b: u8, level: usize, now: Option<Separator>) -> Option<Separator>
+    ensures { digit (joint result) ≡ cond (eqb level 0 && eqb (digit (joint now)) 1) (digit (joint_of b)) (digit (joint now)) }
+{
+    if level == 0 && now.is_none() {
+        separator_of(b)
+    } else {
+        now
+    }
 }
 
 // The innermost brackets that are open at a place, looked for from behind.
@@ -49,7 +64,7 @@ fn look_back(text: &[u8], from: usize, at: usize) -> u64
 {
     let mut i = at;
     let mut level: usize = 0;
-    let mut now: u64 = 1;
+    let mut now = None;
     let mut window: u64 = 0;
     let mut power: u64 = 1;
     while from < i {
@@ -58,11 +73,11 @@ fn look_back(text: &[u8], from: usize, at: usize) -> u64
         }
         i -= 1;
         let b = text[i];
-        if b == 41 {
+        if b == b')' {
             level += 1;
             continue;
         }
-        if b != 40 {
+        if b != b'(' {
             now = looked_at(b, level, now);
             continue;
         }
@@ -70,9 +85,9 @@ fn look_back(text: &[u8], from: usize, at: usize) -> u64
             level -= 1;
             continue;
         }
-        window += now * power;
+        window += digit_of(now) * power;
         power *= 4;
-        now = 1;
+        now = None;
     }
     window
 }
@@ -95,9 +110,10 @@ pub fn window_at(text: &[u8], from: usize, at: usize, window: u64) -> u64
     window
 }
 
-// Whether a separator may stand in a bracket, by their digits.
-pub fn fits(bracket: u64, separator: u64) -> bool
-    ensures { result ≡ eqb bracket 1 || eqb bracket separator }
+// Whether a separator may stand in the innermost bracket of a window.
+pub fn fits(window: u64, separator: Separator) -> bool
+    ensures { result ≡ eqb (window % 4) 1 || eqb (window % 4) (digit (joint (Some separator))) }
 {
-    (bracket == 1) | (bracket == separator)
+    let bracket = window % 4;
+    (bracket == 1) | (bracket == digit_of(Some(separator)))
 }

@@ -1,13 +1,13 @@
 -- Along a comment: turns of the loop to behind its end. Assumes nothing.
-use Rattle.std.specs.Prelude.{◌≡◌, refl, ◌≢◌, Bool, true, false, List, [], ◌∷◌, ℕ, suc, ◌+◌, ◌-◌, ◌≤◌, ◌<◌, eqb, length, drop, get_or}
-use Rattle.std.proofs.Common.{sym, ap, ◌∙◌, true≢false, arith, add-one, eqb-true, length-drop, drop_of_length-le, drop-cons}
+use mir.Val.{bool_byte}
+use Rattle.std.specs.Prelude.{◌≡◌, refl, Bool, true, false, Result, Ok, Err, List, [], ◌∷◌, ℕ, ◌+◌, ◌-◌, ◌≤◌, ◌<◌, eqb, length, drop, get_or}
+use Rattle.std.proofs.Common.{sym, ap, ◌∙◌, arith, add-one, eqb-true, length-drop, drop-cons}
 use Rattle.paper.specs.Dtd.Letters.{begins, hyphen}
-use Rattle.paper.specs.Dtd.Readers.{Read, stop, ok, Reader, onward, ◌>>◌, bounded, literal, char, inside}
+use Rattle.paper.specs.Dtd.Readers.{Read, stop, ok, Reader, ◌>>◌, bounded, literal, char, inside}
 use Rattle.dtd_laws.specs.Comments.{char_less, inside_turn}
-use Rattle.dtd_laws.specs.Refusals.{char_stops}
-use Rattle.dtd_words.specs.declared.Step.{Step}
-use Rattle.dtd_words.specs.Places.{begins_inside}
-use Rattle.dtd_words.specs.Words.{Came}
+use Rattle.dtd_words.specs.declared.Fault.{Fault}
+use Rattle.dtd_words.specs.Places.{At, begins_inside}
+use Rattle.dtd_words.specs.Words.{Came, came_faulty}
 
 -- a hyphen in front
 hyphen_front : (text : List ℕ) (i : ℕ) → begins (eqb hyphen) (drop i text) ≡ true → (i < length text) × (drop i text ≡ hyphen ∷ drop (i + 1) text)
@@ -16,23 +16,6 @@ hyphen_front text i p =
     let c = drop-cons text i 0 h in
     let g = eqb-true hyphen (get_or text i 0) (sym (ap (begins (eqb hyphen)) c) ∙ p) in
     (h, c ∙ rw (add-one i, ← g))
-
--- ---- a character that was read
-
-module _ (text s : List ℕ) (c : Step) (x : Came text c (char s)) where
-  pub went : c.number ≡ 0 → (z : ℕ) × (char s ≡ ok z (drop c.at text)) × (c.at ≤ length text)
-  went p = by (char s) refl x
-    where
-      by : (o : Read ℕ) → char s ≡ o → Came text c o → (z : ℕ) × (o ≡ ok z (drop c.at text)) × (c.at ≤ length text)
-      by (ok z t) e (q, a) = (z, rw a.rest, a.inside)
-      by (stop k t) e (q, a) = let d : k ≡ 14 = char_stops (λ k. k ≡ 14) refl s t k e in absurd (omega arith)
-
-  pub failed : (m : Reader (Unit {0})) → c.number ≢ 0 → Came text c ((char >> m) s)
-  failed m p = by (char s) x
-    where
-      by : (o : Read ℕ) → Came text c o → Came text c (onward o (λ z. m))
-      by (ok z t) (q, a) = absurd (p q)
-      by (stop k t) y = y
 
 -- ---- turns
 
@@ -58,47 +41,46 @@ module _ (text : List ℕ) (at : ℕ) where
         → whole (drop at text) ≡ (char >> whole) (drop (i + 1) text)
     hyphenly p q = g.same ∙ inside_turn (drop i text) ∙ rw p (rw (hyphen_front text i p).1 (rw q))
 
-    -- two hyphens
+    -- two hyphens, and the end
     doubly : begins (eqb hyphen) (drop i text) ≡ true → begins (eqb hyphen) (drop (i + 1) text) ≡ true
         → whole (drop at text) ≡ literal (45 ∷ 62 ∷ []) (drop (i + 1) text)
     doubly p q = g.same ∙ inside_turn (drop i text) ∙ rw p (rw (hyphen_front text i p).1 (rw q))
 
-    on : (s : List ℕ) (c : Step) → whole (drop at text) ≡ (char >> whole) s → Came text c (char s) → c.number ≡ 0
-        → (length (drop c.at text) < length s) × Going text at c.at
-    on s c e x p =
-        let (z, q, h) = went text s c x p in
-        (char_less s q, record { within = h; same = e ∙ rw q })
-
-    off : (s : List ℕ) (c : Step) → whole (drop at text) ≡ (char >> whole) s → Came text c (char s) → c.number ≢ 0 → Came text c (whole (drop at text))
-    off s c e x p = rw e (failed text s c x whole p)
-
-    -- b, d: whether a hyphen stands there, and behind it
+    -- b: whether a hyphen stands there
     module _ (b : Bool) (p : b ≡ begins (eqb hyphen) (drop i text)) where
       pub behind_inside : b ≡ true → i + 1 ≤ length text
       behind_inside p' = let h = (hyphen_front text i (sym p ∙ p')).0 in omega arith
 
-      module _ (c : Step) (p' : b ≡ false) (x : Came text c (char (drop i text))) where
-        pub next : c.number ≡ 0 → Going text at c.at
-        next n = (on (drop i text) c (plainly (sym p ∙ p')) x n).1
+      -- two hyphens
+      pub ends : (r : Result ℕ Fault) → b ≡ true → true ≡ begins (eqb hyphen) (drop (i + 1) text) → Came text r (literal (45 ∷ 62 ∷ []) (drop (i + 1) text))
+          → Came text r (whole (drop at text))
+      ends r p' q x = rw (doubly (sym p ∙ p') (sym q)) x
 
-        pub next_less : c.number ≡ 0 → length text - c.at < length text - i
-        next_less n = rw (← length-drop i text, ← length-drop c.at text) (on (drop i text) c (plainly (sym p ∙ p')) x n).0
+      -- not so: a character is due
+      module _ (one : b ≡ true → begins (eqb hyphen) (drop (i + 1) text) ≡ false) where
+        due : whole (drop at text) ≡ (char >> whole) (drop (i + bool_byte b) text)
+        due = by b refl
+          where
+            by : (x : Bool) → b ≡ x → whole (drop at text) ≡ (char >> whole) (drop (i + bool_byte x) text)
+            by true q = hyphenly (sym p ∙ q) (one q)
+            by false q = plainly (sym p ∙ q) ∙ ap (λ n. (char >> whole) (drop n text)) (let e : i ≡ i + 0 = omega arith in e)
 
-        pub broken : c.number ≢ 0 → Came text c (whole (drop at text))
-        broken n = off (drop i text) c (plainly (sym p ∙ p')) x n
+        pub broken : (e : Fault) → Came text (Err e) (char (drop (i + bool_byte b) text)) → Came text (Err e) (whole (drop at text))
+        broken e x = rw due (came_faulty (λ n a s. At text n s) text (λ z. whole) e (char (drop (i + bool_byte b) text)) x)
 
-      module _ (d : Bool) (p' : b ≡ true) (q : d ≡ begins (eqb hyphen) (drop (i + 1) text)) where
-        pub ends : (r : Step) → d ≡ true → Came text r (literal (45 ∷ 62 ∷ []) (drop (i + 1) text)) → Came text r (whole (drop at text))
-        ends r q' x = rw (doubly (sym p ∙ p') (sym q ∙ q')) x
+        module _ (n : ℕ) (x : Came text (Ok n) (char (drop (i + bool_byte b) text))) where
+          went : (z : ℕ) × (char (drop (i + bool_byte b) text) ≡ ok z (drop n text)) × (n ≤ length text)
+          went = by (char (drop (i + bool_byte b) text)) x
+            where
+              by : (o : Read ℕ) → Came text (Ok n) o → (z : ℕ) × (o ≡ ok z (drop n text)) × (n ≤ length text)
+              by (ok z t) a = (z, rw a.rest, a.inside)
+              by (stop k t) a = absurd a
 
-        module _ (c : Step) (q' : d ≡ false) (x : Came text c (char (drop (i + 1) text))) where
-          pub next_behind : c.number ≡ 0 → Going text at c.at
-          next_behind n = (on (drop (i + 1) text) c (hyphenly (sym p ∙ p') (sym q ∙ q')) x n).1
+          pub next : Going text at n
+          next = let (z, q, h) = went in record { within = h; same = due ∙ rw q }
 
-          pub next_behind_less : c.number ≡ 0 → length text - c.at < length text - i
-          next_behind_less n =
-              let h = (on (drop (i + 1) text) c (hyphenly (sym p ∙ p') (sym q ∙ q')) x n).0 in
-              omega (arith, length-drop (i + 1) text, length-drop c.at text)
-
-          pub broken_behind : c.number ≢ 0 → Came text c (whole (drop at text))
-          broken_behind n = off (drop (i + 1) text) c (hyphenly (sym p ∙ p') (sym q ∙ q')) x n
+          pub next_less : length text - n < length text - i
+          next_less =
+              let (z, q, h) = went in
+              let l = char_less (drop (i + bool_byte b) text) q in
+              omega (arith, length-drop (i + bool_byte b) text, length-drop n text)

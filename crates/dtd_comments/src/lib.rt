@@ -1,15 +1,14 @@
 // Item 4, "DTD files as they come": the characters of a comment, and where it ends, as the readers of `paper` say. Assumes nothing.
 #![tactic(auto)]
 
-ghost use Rattle.std.specs.Prelude.{◌≡◌, ◌≤◌, eqb, length, drop};
-ghost use Rattle.paper.specs.Dtd.Letters.{begins, hyphen};
+ghost use Rattle.std.specs.Prelude.{◌≡◌, ◌≤◌, ◌<◌, OnOk, Bool, ℕ, length, drop};
 ghost use Rattle.paper.specs.Dtd.Letters.{first_of_two, first_of_three, first_of_four, later, second, third};
-ghost use Rattle.paper.specs.Dtd.Readers.{byte, char, onward, bounded, inside};
+ghost use Rattle.paper.specs.Dtd.Readers.{byte, two, three, four, char, bounded, inside};
 ghost use Rattle.dtd_words.specs.Words.{Came};
-ghost use Rattle.dtd_comments.specs.Chars.{plain};
+ghost use Rattle.dtd_comments.specs.Chars.{plain, ByteCame};
 
-use dtd_words::{Step, word_at};
-use paper::DTD_TEXT;
+use dtd_words::{Fault, byte_at, word_at};
+use paper::Refusal;
 
 // XML 1.0, [2]: Char, in UTF-8
 fn is_two(a: u8) -> bool
@@ -33,7 +32,7 @@ fn is_four(a: u8) -> bool
 fn is_plain(a: u8) -> bool
     ensures { result ≡ plain a }
 {
-    ((32 <= a) & (a <= 127) | (a == 9) | (a == 10) | (a == 13)) & !(a == 45)
+    ((32 <= a) & (a <= 127) | (a == b'\t') | (a == b'\n') | (a == b'\r')) & (a != b'-')
 }
 
 fn is_later(b: u8) -> bool
@@ -45,7 +44,7 @@ fn is_later(b: u8) -> bool
 fn is_second(a: u8, b: u8) -> bool
     ensures { result ≡ second a b }
 {
-    ((128 <= b) & (b <= 191))
+    is_later(b)
         & !((a == 224) & (b < 160))
         & !((a == 237) & (160 <= b))
         & !((a == 240) & (b < 144))
@@ -55,184 +54,84 @@ fn is_second(a: u8, b: u8) -> bool
 fn is_third(a: u8, b: u8, c: u8) -> bool
     ensures { result ≡ third a b c }
 {
-    ((128 <= c) & (c <= 191)) & !((a == 239) & (b == 191) & (190 <= c))
+    is_later(c) & !((a == 239) & (b == 191) & (190 <= c))
 }
 
-fn later_at(text: &[u8], at: usize) -> Step
-    requires { at ≤ length text.now }
-    ensures { Came text.now result (byte later (drop at text.now)) }
+// The byte at a place, if it passes a test.
+fn tested_at<F: FnOnce(u8) -> bool>(text: &[u8], at: usize, passes: F) -> Result<u8, Fault>
+    requires in_bounds { at ≤ length text.now }
+    requires callable { F.IsAlwaysCallable passes }
+    ensures inside { OnOk result (at < length text.now) }
+    ensures read { (P : ℕ → Bool) → ((x : ℕ) (b : Bool) → F.post passes x b → b ≡ P x) → ByteCame text.now at result (byte P (drop at text.now)) }
 {
-    if text.len() <= at {
-        return Step {
-            number: DTD_TEXT,
+    match text.get(at) {
+        Some(&b) if passes(b) => Ok(b),
+        _ => Err(Fault {
+            refusal: Refusal::DtdText,
             at,
-        };
-    }
-    if is_later(text[at]) {
-        Step {
-            number: 0,
-            at: at + 1,
-        }
-    } else {
-        Step {
-            number: DTD_TEXT,
-            at,
-        }
+        }),
     }
 }
 
-fn third_at(text: &[u8], at: usize, a: u8, b: u8) -> Step
+// A character of two bytes, of three, and of four.
+fn two_at(text: &[u8], at: usize) -> Result<usize, Fault>
     requires { at ≤ length text.now }
-    ensures { Came text.now result (byte (third a b) (drop at text.now)) }
+    ensures { Came text.now result (two (drop at text.now)) }
 {
-    if text.len() <= at {
-        return Step {
-            number: DTD_TEXT,
-            at,
-        };
-    }
-    if is_third(a, b, text[at]) {
-        Step {
-            number: 0,
-            at: at + 1,
-        }
-    } else {
-        Step {
-            number: DTD_TEXT,
-            at,
-        }
-    }
+    tested_at(text, at, |a| is_two(a))?;
+    tested_at(text, at + 1, |b| is_later(b))?;
+    Ok(at + 2)
 }
 
-fn two_later(text: &[u8], at: usize) -> Step
+fn three_at(text: &[u8], at: usize) -> Result<usize, Fault>
     requires { at ≤ length text.now }
-    ensures { Came text.now result (onward (byte later (drop at text.now)) (λ c. byte later)) }
+    ensures { Came text.now result (three (drop at text.now)) }
 {
-    if text.len() <= at {
-        return Step {
-            number: DTD_TEXT,
-            at,
-        };
-    }
-    if is_later(text[at]) {
-        later_at(text, at + 1)
-    } else {
-        Step {
-            number: DTD_TEXT,
-            at,
-        }
-    }
+    let a = tested_at(text, at, |a| is_three(a))?;
+    let b = tested_at(text, at + 1, |b| is_second(a, b))?;
+    tested_at(text, at + 2, |c| is_third(a, b, c))?;
+    Ok(at + 3)
 }
 
-// Behind the first byte a of three, and of four.
-fn after_three(text: &[u8], at: usize, a: u8) -> Step
+fn four_at(text: &[u8], at: usize) -> Result<usize, Fault>
     requires { at ≤ length text.now }
-    ensures { Came text.now result (onward (byte (second a) (drop at text.now)) (λ b. byte (third a b))) }
+    ensures { Came text.now result (four (drop at text.now)) }
 {
-    if text.len() <= at {
-        return Step {
-            number: DTD_TEXT,
-            at,
-        };
-    }
-    let b = text[at];
-    if is_second(a, b) {
-        third_at(text, at + 1, a, b)
-    } else {
-        Step {
-            number: DTD_TEXT,
-            at,
-        }
-    }
-}
-
-fn after_four(text: &[u8], at: usize, a: u8) -> Step
-    requires { at ≤ length text.now }
-    ensures { Came text.now result (onward (byte (second a) (drop at text.now)) (λ b s. onward (byte later s) (λ c. byte later))) }
-{
-    if text.len() <= at {
-        return Step {
-            number: DTD_TEXT,
-            at,
-        };
-    }
-    let b = text[at];
-    if is_second(a, b) {
-        two_later(text, at + 1)
-    } else {
-        Step {
-            number: DTD_TEXT,
-            at,
-        }
-    }
+    let a = tested_at(text, at, |a| is_four(a))?;
+    tested_at(text, at + 1, |b| is_second(a, b))?;
+    tested_at(text, at + 2, |c| is_later(c))?;
+    tested_at(text, at + 3, |d| is_later(d))?;
+    Ok(at + 4)
 }
 
 // A character that is no hyphen.
-pub fn char_at(text: &[u8], at: usize) -> Step
+pub fn char_at(text: &[u8], at: usize) -> Result<usize, Fault>
     requires { at ≤ length text.now }
     ensures { Came text.now result (char (drop at text.now)) }
 {
-    if text.len() <= at {
-        return Step {
-            number: DTD_TEXT,
+    match text.get(at) {
+        Some(&a) if is_two(a) => two_at(text, at),
+        Some(&a) if is_three(a) => three_at(text, at),
+        Some(&a) if is_four(a) => four_at(text, at),
+        Some(&a) if is_plain(a) => Ok(at + 1),
+        _ => Err(Fault {
+            refusal: Refusal::DtdText,
             at,
-        };
+        }),
     }
-    let a = text[at];
-    if is_two(a) {
-        return later_at(text, at + 1);
-    }
-    if is_three(a) {
-        return after_three(text, at + 1, a);
-    }
-    if is_four(a) {
-        return after_four(text, at + 1, a);
-    }
-    if is_plain(a) {
-        Step {
-            number: 0,
-            at: at + 1,
-        }
-    } else {
-        Step {
-            number: DTD_TEXT,
-            at,
-        }
-    }
-}
-
-fn hyphen_at(text: &[u8], at: usize) -> bool
-    ensures { result ≡ begins (eqb hyphen) (drop at text.now) }
-{
-    if text.len() <= at {
-        return false;
-    }
-    45 == text[at]
 }
 
 // From behind `<!--` to behind `-->`.
-pub fn comment_end(text: &[u8], at: usize) -> Step
+pub fn comment_end(text: &[u8], at: usize) -> Result<usize, Fault>
     requires { at ≤ length text.now }
     ensures { Came text.now result (bounded inside (drop at text.now)) }
 {
     let mut i = at;
     loop {
-        if hyphen_at(text, i) {
-            let j = i + 1;
-            if hyphen_at(text, j) {
-                return word_at(text, j, b"->");
-            }
-            let c = char_at(text, j);
-            if c.number != 0 {
-                return c;
-            }
-            i = c.at;
-            continue;
+        let hyphen = byte_at(text, i, b'-');
+        if hyphen && byte_at(text, i + 1, b'-') {
+            return word_at(text, i + 1, b"->");
         }
-        let c = char_at(text, i);
-        if c.number != 0 {
-            return c;
-        }
-        i = c.at;
+        i = char_at(text, i + hyphen as usize)?;
     }
 }

@@ -7,7 +7,7 @@ ghost use Rattle.dtd_content_bytes.specs.Kinds.{kind_from};
 ghost use Rattle.dtd_content_bytes.specs.Models.{Modelled, ModelPut};
 ghost use Rattle.dtd_content_bytes.specs.Contents.{Specified, ContentPut};
 
-use copying::copy_bytes;
+use copying::copy;
 use dtd_symbols::write_symbols;
 use dtd_words::skip_white;
 use numbers::put_number;
@@ -48,18 +48,17 @@ fn put_model(
     from: usize,
     to: usize,
     names: &[usize],
-    count: usize,
     out: &mut [u8],
     at: usize,
 ) -> usize
-    requires { Modelled text.now names.now from to count out.old at }
-    ensures { ModelPut text.now names.now from to count out.old at result out.new }
+    requires { Modelled text.now names.now from to out.old at }
+    ensures { ModelPut text.now names.now from to out.old at result out.new }
 {
-    let mut symbols: [u8; 255] = [0; 255];
-    let begin = write_symbols(text, from, to, names, count, &mut symbols);
+    let mut symbols: [u8; MOST_SYMBOLS] = [0; MOST_SYMBOLS];
+    let begin = write_symbols(text, from, to, names, &mut symbols);
     let n = MOST_SYMBOLS - begin;
     let next = put_number(out, at, n as u32);
-    copy_bytes(out, next, &symbols, begin, n);
+    copy(out, next, &symbols, begin, n);
     next + n
 }
 
@@ -69,17 +68,16 @@ pub fn put_content(
     from: usize,
     to: usize,
     names: &[usize],
-    count: usize,
     out: &mut [u8],
     at: usize,
 ) -> usize
-    requires { Specified text.now names.now from to count out.old at }
-    ensures { ContentPut text.now names.now from to count out.old at result out.new }
+    requires { Specified text.now names.now from to out.old at }
+    ensures { ContentPut text.now names.now from to out.old at result out.new }
 {
     let kind = kind_at(text, from);
     out[at] = kind;
     if kind != MODEL {
         return at + 1;
     }
-    put_model(text, from, to, names, count, out, at + 1)
+    put_model(text, from, to, names, out, at + 1)
 }

@@ -1,7 +1,6 @@
 // Item 4, "DTD files as they come": a text that is taken, or where it is refused. Assumes nothing.
 #![tactic(auto)]
 
-ghost use Rattle.std.specs.Prelude.{◌≤◌, length, take};
 ghost use Rattle.paper.specs.Dtd.Letters.{among};
 ghost use Rattle.paper.specs.Dtd.Reading.{reading};
 ghost use Rattle.paper.specs.Dtd.Imported.{declared};
@@ -10,14 +9,13 @@ ghost use Rattle.dtd_words.specs.Words.{Came};
 ghost use Rattle.dtd_names.specs.Named.{names_at};
 ghost use Rattle.dtd_texts.specs.Turns.{Lists, Told};
 
-use dtd_texts::{Reading, read_text, refused_at};
-use dtd_words::Step;
-use paper::{DTD_TEXT, MOST_ATTRIBUTES, MOST_ELEMENTS};
+use dtd_texts::{Reading, read_text};
+use dtd_words::Fault;
+use paper::{MOST_ATTRIBUTES, MOST_ELEMENTS, Refusal};
 
-// The text, read once more: 0, or the first name that is declared nowhere.
-fn strictly(text: &[u8], elements: &[usize], count: usize) -> Step
-    requires { count ≤ length elements.now }
-    ensures { Came text.now result (reading (λ n. among n (names_at text.now (take count elements.now))) text.now) }
+// The text, read once more: its end, or the first name that is declared nowhere.
+fn strictly(text: &[u8], elements: &[usize]) -> Result<usize, Fault>
+    ensures { Came text.now result (reading (λ n. among n (names_at text.now elements.now)) text.now) }
 {
     let mut names: [usize; MOST_ELEMENTS] = [0; MOST_ELEMENTS];
     let mut contents: [usize; MOST_ELEMENTS] = [0; MOST_ELEMENTS];
@@ -27,20 +25,15 @@ fn strictly(text: &[u8], elements: &[usize], count: usize) -> Step
     let mut rows: [u64; 240] = [0; 240];
     let r = read_text(
         text,
-        true,
-        elements,
-        count,
+        Some(elements),
         &mut names,
         &mut contents,
         &mut ends,
         &mut attributes,
         &mut heads,
         &mut rows,
-    );
-    Step {
-        number: r.number,
-        at: r.at,
-    }
+    )?;
+    Ok(r.at)
 }
 
 // The text, read for what it declares and then for names that are declared nowhere: where its elements' names and contents and its
@@ -53,23 +46,19 @@ pub fn declared_at(
     attributes: &mut [usize],
     heads: &mut [usize],
     rows: &mut [u64],
-) -> Reading
+) -> Result<Reading, Fault>
     requires { Lists elements.old contents.old ends.old attributes.old heads.old rows.old }
     ensures { Told any text.now result elements.new contents.new ends.new attributes.new heads.new rows.new (declared text.now) }
 {
-    let none: [usize; 1] = [0; 1];
     let first = read_text(
-        text, false, &none, 0, elements, contents, ends, attributes, heads, rows,
-    );
-    if first.number != 0 {
-        return first;
-    }
+        text, None, elements, contents, ends, attributes, heads, rows,
+    )?;
     if first.elements == 0 {
-        return refused_at(DTD_TEXT, first.at);
+        return Err(Fault {
+            refusal: Refusal::DtdText,
+            at: first.at,
+        });
     }
-    let again = strictly(text, elements, first.elements);
-    if again.number != 0 {
-        return refused_at(again.number, again.at);
-    }
-    first
+    strictly(text, &elements[..first.elements])?;
+    Ok(first)
 }

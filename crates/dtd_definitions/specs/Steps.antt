@@ -1,21 +1,23 @@
 -- The steps of a definition: white space, a new name, a kind that is no second ID, a status. Assumes nothing.
-use Rattle.std.specs.Prelude.{◌≡◌, refl, ◌≢◌, Bool, true, false, cond, List, ℕ, ◌≤◌, ◌<◌, ltb, length, drop, get_or}
+use Rattle.std.specs.Prelude.{◌≡◌, refl, ◌≢◌, Bool, true, false, cond, Result, Ok, Err, List, ℕ, ◌≤◌, ◌<◌, ltb, length, drop}
 use Rattle.std.proofs.Common.{sym, ap, ◌∙◌, arith, lt-ltb, le-ltb, eq-eqb, ne_eqb}
 use Rattle.paper.specs.Basics.{most_attributes}
+use Rattle.paper.specs.Codes.{number_of, kind_of}
 use Rattle.paper.specs.Sets.{bit}
+use Rattle.paper.specs.declared.Refusal.TheVariants.{Schema, DtdText}
 use Rattle.paper.specs.Dtd.Letters.{Name, is_white, is_first, is_more, begins, run, past}
 use Rattle.paper.specs.Dtd.Declarations.{Kind, Status}
-use Rattle.paper.specs.Dtd.Numbering.{number_in, kind_number}
+use Rattle.paper.specs.Dtd.Numbering.{number_in, kind_number, status_number}
+use Rattle.paper.specs.Codes as Codes
 use Rattle.paper.specs.Dtd.Readers.{Read, stop, ok, Reader, outside, onward, ◌>>◌, tested, S, name, kind, status}
 use Rattle.paper.specs.Dtd.Reading.{limit}
-use Rattle.dtd_laws.specs.Refusals.{S_stops, name_stops, kind_stops}
-use Rattle.dtd_words.specs.declared.Step.{Step}
-use Rattle.dtd_words.specs.Places.{At, begins_none, begins_at}
-use Rattle.dtd_words.specs.Words.{Came}
+use Rattle.dtd_words.specs.declared.Fault.{Fault}
+use Rattle.dtd_words.specs.Places.{At}
+use Rattle.dtd_words.specs.Words.{CameTo, Came, faulty, onwards, came_faulty, came_onwards}
 use Rattle.dtd_names.specs.Named.{name_at}
 use Rattle.dtd_kinds.specs.declared.Kinded.{Kinded}
 use Rattle.dtd_kinds.specs.declared.Stated.{Stated}
-use Rattle.dtd_kinds.specs.Kinds.{KindCame, StatusCame, went, failed}
+use Rattle.dtd_kinds.specs.Kinds.{KindCame, StatusCame}
 use Rattle.dtd_rows.specs.declared.Row.{Row}
 use Rattle.dtd_definitions.specs.declared.Named.{Named}
 use Rattle.dtd_definitions.specs.Asked.{new_in, room_in, ids_in}
@@ -38,122 +40,133 @@ abbrev pub status_after : Reader Status
 status_after = S >> status
 
 -- what the reader of a name came to: its place and its number among the names
-abbrev pub NameCame : List ℕ → List Name → Named → Read Name → Type 0
-NameCame text names r (ok a s) = (r.number ≡ 0) × At text r.at s × (name_at text r.place ≡ a) × (r.attribute ≡ number_in names a)
-NameCame text names r (stop k s) = (r.number ≡ k) × At text r.at s
+abbrev pub NameIs : List ℕ → List Name → Named → Name → List ℕ → Type 0
+NameIs text names v a s = At text v.at s × (name_at text v.place ≡ a) × (v.attribute ≡ number_in names a)
+
+abbrev pub NameCame : List ℕ → List Name → Result Named Fault → Read Name → Type 0
+NameCame text names r o = CameTo (NameIs text names) text r o
+
+abbrev pub KindIs : List ℕ → Kinded → Kind → List ℕ → Type 0
+KindIs text v k s = At text v.at s × (kind_of v.kind ≡ kind_number k)
+
+abbrev pub StatusIs : List ℕ → Stated → Status → List ℕ → Type 0
+StatusIs text v t s = At text v.at s × (Codes.status_of v.status ≡ status_number t)
 
 -- ---- white space
 
 module _ (text : List ℕ) (at : ℕ) where
-  abbrev White : Step → Type 0
-  White r = Came text r (S (drop at text))
-
-  no_white : at ≤ length text → begins is_white (drop at text) ≡ false → White (record { number = 14; at = at })
-  no_white h p = rw p (refl, record { inside = h; rest = refl })
-
-  pub white_none : at ≤ length text → length text ≤ at → White (record { number = 14; at = at })
-  white_none h k = no_white h (sym (begins_none is_white text at k))
-
-  module _ (b : Bool) (h : at < length text) (q : b ≡ is_white (get_or text at 0)) where
-    pub white_not : b ≡ false → White (record { number = 14; at = at })
-    white_not p = no_white (omega arith) (sym (begins_at is_white text at b h q) ∙ p)
-
-    pub white_here : (j : ℕ) → b ≡ true → At text j (past is_white (drop at text)) → White (record { number = 0; at = j })
-    white_here j p a = rw (sym (begins_at is_white text at b h q) ∙ p) (refl, a)
-
   -- behind it: refused, or gone on
-  module _ (w : Step) (c : White w) where
-    white_went : w.number ≡ 0 → S (drop at text) ≡ ok tt (drop w.at text)
-    white_went p = let (u, q, h) = went text w (S (drop at text)) (λ k t e. S_stops (λ k. k ≢ 0) (λ z. omega arith) (drop at text) t k e) c p in q
+  module _ (e : Fault) (c : Came text (Err e) (S (drop at text))) where
+    pub no_name_after : (names : List Name) (row : Row) → NameCame text names (Err e) (name_after names row (drop at text))
+    no_name_after names row = came_faulty (NameIs text names) text (λ u. new_name names row) e (S (drop at text)) c
 
-    module _ (p : w.number ≢ 0) where
-      white_failed : (S (drop at text) ≡ stop w.number (drop w.at text)) × (w.at ≤ length text)
-      white_failed = failed text w (S (drop at text)) c p
+    pub no_kind_after : (row : Row) → KindCame text (Err e) (kind_after row (drop at text))
+    no_kind_after row = came_faulty (KindIs text) text (λ u. new_kind row) e (S (drop at text)) c
 
-      pub no_name_after : (names : List Name) (row : Row) (r : Named) → r.number ≡ w.number → r.at ≡ w.at → NameCame text names r (name_after names row (drop at text))
-      no_name_after names row r n a = let (q, h) = white_failed in rw q (n, rw a (record { inside = h; rest = refl }))
+    pub no_status_after : StatusCame text (Err e) (status_after (drop at text))
+    no_status_after = came_faulty (StatusIs text) text (λ u. status) e (S (drop at text)) c
 
-      pub no_kind_after : (row : Row) (r : Kinded) → r.number ≡ w.number → r.at ≡ w.at → KindCame text r (kind_after row (drop at text))
-      no_kind_after row r n a = let (q, h) = white_failed in rw q (n, rw a (record { inside = h; rest = refl }))
+  module _ (w : ℕ) (c : Came text (Ok w) (S (drop at text))) where
+    pub name_behind : (names : List Name) (row : Row) (r : Result Named Fault) → NameCame text names r (new_name names row (drop w text)) → NameCame text names r (name_after names row (drop at text))
+    name_behind names row r x = came_onwards (NameIs text names) text (λ u. new_name names row) w (S (drop at text)) r c (λ u. x)
 
-      pub no_status_after : (r : Stated) → r.number ≡ w.number → r.at ≡ w.at → StatusCame text r (status_after (drop at text))
-      no_status_after r n a = let (q, h) = white_failed in rw q (n, rw a (record { inside = h; rest = refl }))
+    pub kind_behind : (row : Row) (r : Result Kinded Fault) → KindCame text r (new_kind row (drop w text)) → KindCame text r (kind_after row (drop at text))
+    kind_behind row r x = came_onwards (KindIs text) text (λ u. new_kind row) w (S (drop at text)) r c (λ u. x)
 
-    module _ (p : w.number ≡ 0) where
-      pub name_behind : (names : List Name) (row : Row) (r : Named) → NameCame text names r (new_name names row (drop w.at text)) → NameCame text names r (name_after names row (drop at text))
-      name_behind names row r x = rw (white_went p) x
+    pub status_behind : (r : Result Stated Fault) → StatusCame text r (status (drop w text)) → StatusCame text r (status_after (drop at text))
+    status_behind r x = came_onwards (StatusIs text) text (λ u. status) w (S (drop at text)) r c (λ u. x)
 
-      pub kind_behind : (row : Row) (r : Kinded) → KindCame text r (new_kind row (drop w.at text)) → KindCame text r (kind_after row (drop at text))
-      kind_behind row r x = rw (white_went p) x
+-- ---- what is asked of what was read
 
-      pub status_behind : (r : Stated) → StatusCame text r (status (drop w.at text)) → StatusCame text r (status_after (drop at text))
-      status_behind r x = rw (white_went p) x
+module _ {A V : Type 0} (P : V → A → List ℕ → Type 0) (text : List ℕ) (n : ℕ) (T : A → Bool) (m : Reader A) (s : List ℕ) where
+  abbrev asked : A → Reader A
+  asked a r = cond (T a) (ok a r) (stop n s)
+
+  tested_faulty : (e : Fault) → CameTo P text (Err e) (m s) → CameTo P text (Err e) (tested n T m s)
+  tested_faulty e c = faulty P P text asked e (m s) c
+
+  module _ (v : V) (c : CameTo P text (Ok v) (m s)) where
+    tested_taken : ((a : A) (r : List ℕ) → P v a r → T a ≡ true) → CameTo P text (Ok v) (tested n T m s)
+    tested_taken g = onwards P P text asked v (m s) (Ok v) c (λ a r p. rw (g a r p) p)
+
+    tested_stopped : (e : Fault) → ((a : A) (r : List ℕ) → P v a r → T a ≡ false) → number_of e.refusal ≡ n → At text e.at s → CameTo P text (Err e) (tested n T m s)
+    tested_stopped e g q h = onwards P P text asked v (m s) (Err e) c (λ a r p. rw (g a r p) (q, h))
 
 -- ---- a new name
 
-module _ (text : List ℕ) (names : List Name) (row : Row) (at : ℕ) (n : Step) (c : Came text n (name (drop at text))) where
-  abbrev New : Named → Type 0
+module _ (text : List ℕ) (names : List Name) (row : Row) (at : ℕ) where
+  abbrev New : Result Named Fault → Type 0
   New r = NameCame text names r (new_name names row (drop at text))
 
-  pub no_name : n.number ≢ 0 → New (record { number = n.number; at = n.at; place = at; attribute = 0 })
-  no_name p = let (q, h) = failed text n (name (drop at text)) c p in rw q (refl, record { inside = h; rest = refl })
+  abbrev fresh_name : Reader Name
+  fresh_name = tested outside (new_in names row) name
 
-  module _ (h : at ≤ length text) (p : n.number ≡ 0) (z : ℕ) (f : z ≡ number_in names (name_at text at)) where
-    name_read : (name (drop at text) ≡ ok (name_at text at) (drop n.at text)) × (n.at ≤ length text)
-    name_read =
-        let (a, q, i) = went text n (name (drop at text)) (λ k t e. name_stops (λ k. k ≢ 0) (λ z. omega arith) (drop at text) t k e) c p in
-        (q ∙ ap (λ b. ok b (drop n.at text)) (by (begins is_first (drop at text)) a q), i)
+  pub no_name : (e : Fault) → Came text (Err e) (name (drop at text)) → New (Err e)
+  no_name e c =
+      tested_faulty (NameIs text names) text limit (room_in names) fresh_name (drop at text) e
+      (tested_faulty (NameIs text names) text outside (new_in names row) name (drop at text) e (by (begins is_first (drop at text)) c))
+    where
+      by : (x : Bool) → Came text (Err e) (cond x (ok (run is_more (drop at text)) (past is_more (drop at text))) (stop 14 (drop at text)))
+          → NameCame text names (Err e) (cond x (ok (run is_more (drop at text)) (past is_more (drop at text))) (stop 14 (drop at text)))
+      by true c = absurd c
+      by false c = c
+
+  module _ (b z : ℕ) (c : Came text (Ok b) (name (drop at text))) (f : z ≡ number_in names (name_at text at)) where
+    abbrev it : Named
+    it = record { place = at; attribute = z; at = b }
+
+    name_read : NameCame text names (Ok it) (name (drop at text))
+    name_read = by (begins is_first (drop at text)) c
       where
-        by : (b : Bool) (a : Name) → cond b (ok (run is_more (drop at text)) (past is_more (drop at text))) (stop 14 (drop at text)) ≡ ok a (drop n.at text) → a ≡ name_at text at
-        by true a q = cc
-        by false a q = let w : ◌≡◌ {A = ℕ} 0 1 = cc in absurd (omega arith)
+        by : (x : Bool) → Came text (Ok b) (cond x (ok (run is_more (drop at text)) (past is_more (drop at text))) (stop 14 (drop at text)))
+            → NameCame text names (Ok it) (cond x (ok (run is_more (drop at text)) (past is_more (drop at text))) (stop 14 (drop at text)))
+        by true c = (c, refl, f)
+        by false c = absurd c
 
-    pub over_limit : most_attributes ≤ z → New (record { number = 2; at = at; place = at; attribute = z })
-    over_limit k =
-        let g : ltb (number_in names (name_at text at)) most_attributes ≡ false = rw (← f) (le-ltb z most_attributes k) in
-        rw (name_read.0, g) (rw g (refl, record { inside = h; rest = refl }))
+    pub over_limit : at ≤ length text → most_attributes ≤ z → New (Err (record { refusal = Schema; at = at }))
+    over_limit h k =
+        let low : (a : Name) (r : List ℕ) → NameIs text names it a r → ltb (number_in names a) most_attributes ≡ false =
+        λ a r p. rw (← p.2) (le-ltb z most_attributes k) in
+        tested_stopped (NameIs text names) text limit (room_in names) fresh_name (drop at text) it
+        (tested_taken (NameIs text names) text outside (new_in names row) name (drop at text) it name_read (λ a r p. rw (low a r p)))
+        (record { refusal = Schema; at = at }) low refl (record { inside = h; rest = refl })
 
-    module _ (k : z < most_attributes) (b : Bool) (e : b ≡ bit row.allowed z) where
-      low : ltb (number_in names (name_at text at)) most_attributes ≡ true
-      low = rw (← f) (lt-ltb z most_attributes k)
+    module _ (k : z < most_attributes) (x : Bool) (e : x ≡ bit row.allowed z) where
+      low : (a : Name) (r : List ℕ) → NameIs text names it a r → ltb (number_in names a) most_attributes ≡ true
+      low a r p = rw (← p.2) (lt-ltb z most_attributes k)
 
-      test : bit row.allowed (number_in names (name_at text at)) ≡ b
-      test = rw (← f) (sym e)
+      test : (a : Name) (r : List ℕ) → NameIs text names it a r → bit row.allowed (number_in names a) ≡ x
+      test a r p = rw (← p.2) (sym e)
 
-      pub twice : b ≡ true → New (record { number = 14; at = at; place = at; attribute = z })
-      twice q = rw (name_read.0, low, test, q) (refl, record { inside = h; rest = refl })
+      pub twice : at ≤ length text → x ≡ true → New (Err (record { refusal = DtdText; at = at }))
+      twice h q =
+          tested_faulty (NameIs text names) text limit (room_in names) fresh_name (drop at text) (record { refusal = DtdText; at = at })
+          (tested_stopped (NameIs text names) text outside (new_in names row) name (drop at text) it name_read (record { refusal = DtdText; at = at })
+          (λ a r p. rw (low a r p, test a r p, q)) refl (record { inside = h; rest = refl }))
 
-      pub fresh : b ≡ false → New (record { number = 0; at = n.at; place = at; attribute = z })
-      fresh q = rw (name_read.0, low, test, q) (rw low (refl, record { inside = name_read.1; rest = refl }, refl, f))
+      pub fresh : x ≡ false → New (Ok it)
+      fresh q =
+          tested_taken (NameIs text names) text limit (room_in names) fresh_name (drop at text) it
+          (tested_taken (NameIs text names) text outside (new_in names row) name (drop at text) it name_read (λ a r p. rw (low a r p, test a r p, q)))
+          low
 
 -- ---- a kind
 
-module _ (text : List ℕ) (row : Row) (at : ℕ) (k : Kinded) (c : KindCame text k (kind (drop at text))) where
-  pub kind_failed : k.number ≢ 0 → KindCame text k (new_kind row (drop at text))
-  kind_failed p = by (kind (drop at text)) c
-    where
-      by : (o : Read Kind) → KindCame text k o → KindCame text k (onward o (λ a r. cond (ids_in row a) (ok a r) (stop 2 (drop at text))))
-      by (ok a s) x = absurd (p x.0)
-      by (stop n s) x = x
+module _ (text : List ℕ) (row : Row) (at : ℕ) where
+  pub kind_failed : (e : Fault) → KindCame text (Err e) (kind (drop at text)) → KindCame text (Err e) (new_kind row (drop at text))
+  kind_failed e c = tested_faulty (KindIs text) text limit (ids_in row) kind (drop at text) e c
 
-  module _ (p : k.number ≡ 0) where
-    kind_read : (y : Kind) × (s : List ℕ) × (kind (drop at text) ≡ ok y s) × At text k.at s × (k.kind ≡ kind_number y)
-    kind_read = by (kind (drop at text)) refl c
-      where
-        by : (o : Read Kind) → kind (drop at text) ≡ o → KindCame text k o → (y : Kind) × (s : List ℕ) × (o ≡ ok y s) × At text k.at s × (k.kind ≡ kind_number y)
-        by (ok y s) e (i, a, f) = (y, s, refl, a, f)
-        by (stop n s) e (i, a) = absurd (kind_stops (λ k. k ≢ 0) (λ z. omega arith) (drop at text) s n e (sym i ∙ p))
+  module _ (k : Kinded) (c : KindCame text (Ok k) (kind (drop at text))) where
+    taken : ((y : Kind) → kind_of k.kind ≡ kind_number y → ids_in row y ≡ true) → KindCame text (Ok k) (new_kind row (drop at text))
+    taken g = tested_taken (KindIs text) text limit (ids_in row) kind (drop at text) k c (λ y s p. g y p.1)
 
-    taken : ((y : Kind) → k.kind ≡ kind_number y → ids_in row y ≡ true) → KindCame text k (new_kind row (drop at text))
-    taken g = let (y, s, e, a, f) = kind_read in rw (e, g y f) (p, a, f)
-
-    pub kind_other : k.kind ≢ 1 → KindCame text k (new_kind row (drop at text))
+    pub kind_other : kind_of k.kind ≢ 1 → KindCame text (Ok k) (new_kind row (drop at text))
     kind_other q = taken (λ y f. rw (ne_eqb (kind_number y) 1 (λ z. q (f ∙ z))))
 
-    pub kind_first : k.kind ≡ 1 → row.id ≡ 0 → KindCame text k (new_kind row (drop at text))
+    pub kind_first : kind_of k.kind ≡ 1 → row.id ≡ 0 → KindCame text (Ok k) (new_kind row (drop at text))
     kind_first q o = taken (λ y f. rw (eq-eqb (kind_number y) 1 (sym f ∙ q), o))
 
-    pub kind_second : at ≤ length text → k.kind ≡ 1 → row.id ≢ 0 → KindCame text (record { number = 2; at = at; kind = k.kind }) (new_kind row (drop at text))
+    pub kind_second : at ≤ length text → kind_of k.kind ≡ 1 → row.id ≢ 0 → KindCame text (Err (record { refusal = Schema; at = at })) (new_kind row (drop at text))
     kind_second h q o =
-        let (y, s, e, a, f) = kind_read in
-        rw (e, eq-eqb (kind_number y) 1 (sym f ∙ q), ne_eqb row.id 0 o) (refl, record { inside = h; rest = refl })
+        tested_stopped (KindIs text) text limit (ids_in row) kind (drop at text) k c (record { refusal = Schema; at = at })
+        (λ y s p. rw (eq-eqb (kind_number y) 1 (sym p.1 ∙ q), ne_eqb row.id 0 o)) refl (record { inside = h; rest = refl })

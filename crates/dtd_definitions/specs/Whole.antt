@@ -1,12 +1,14 @@
 -- A definition, put together of its steps. Assumes nothing.
-use Rattle.std.specs.Prelude.{◌≡◌, refl, ◌≢◌, List, ℕ, ◌≤◌, length, drop}
-use Rattle.std.proofs.Common.{sym, ap, ◌∙◌, arith}
+use Rattle.std.specs.Prelude.{◌≡◌, refl, Result, Ok, Err, List, ℕ, ◌≤◌, length, drop}
+use Rattle.std.proofs.Common.{sym, subst, ◌∙◌}
+use Rattle.paper.specs.Codes.{kind_of, status_of}
 use Rattle.paper.specs.Dtd.Letters.{Name}
 use Rattle.paper.specs.Dtd.Declarations.{Kind, Status, Definition}
 use Rattle.paper.specs.Dtd.Numbering.{number_in, kind_number, status_number}
 use Rattle.paper.specs.Dtd.Readers.{Read, stop, ok, Reader, onward, pure, S, kind, status}
-use Rattle.dtd_laws.specs.Refusals.{Stops, S_stops, name_stops, kind_stops, status_stops, chain_stops, tested_stops}
+use Rattle.dtd_words.specs.declared.Fault.{Fault}
 use Rattle.dtd_words.specs.Places.{At}
+use Rattle.dtd_words.specs.Words.{CameTo, faulty, onwards}
 use Rattle.dtd_names.specs.Named.{name_at}
 use Rattle.dtd_kinds.specs.declared.Kinded.{Kinded}
 use Rattle.dtd_kinds.specs.declared.Stated.{Stated}
@@ -14,30 +16,28 @@ use Rattle.dtd_kinds.specs.Kinds.{KindCame, StatusCame}
 use Rattle.dtd_rows.specs.declared.Row.{Row}
 use Rattle.dtd_definitions.specs.declared.Named.{Named}
 use Rattle.dtd_definitions.specs.declared.Defined.{Defined}
-use Rattle.dtd_definitions.specs.Asked.{new_in, room_in, ids_in, definition_in}
-use Rattle.dtd_definitions.specs.Steps.{new_name, new_kind, name_after, kind_after, status_after, NameCame}
+use Rattle.dtd_definitions.specs.Asked.{definition_in}
+use Rattle.dtd_definitions.specs.Steps.{new_name, new_kind, name_after, kind_after, status_after, NameIs, NameCame, KindIs, StatusIs}
 
 -- what the reader of a definition came to
-abbrev pub DefinitionCame : List ℕ → List Name → Defined → Read Definition → Type 0
-DefinitionCame text names r (ok d s) =
-    (r.number ≡ 0)
-    × At text r.at s
-    × (name_at text r.place ≡ d.name)
-    × (r.attribute ≡ number_in names d.name)
-    × (r.kind ≡ kind_number d.kind)
-    × (r.status ≡ status_number d.status)
-DefinitionCame text names r (stop k s) = (r.number ≡ k) × At text r.at s
+abbrev pub DefinitionIs : List ℕ → List Name → Defined → Definition → List ℕ → Type 0
+DefinitionIs text names v d s =
+    At text v.at s
+    × (name_at text v.place ≡ d.name)
+    × (v.attribute ≡ number_in names d.name)
+    × (kind_of v.kind ≡ kind_number d.kind)
+    × (status_of v.status ≡ status_number d.status)
 
-abbrev pub no_definition : ℕ → ℕ → Defined
-no_definition n at = record { number = n; at = at; place = 0; attribute = 0; kind = 0; status = 0 }
+abbrev pub DefinitionCame : List ℕ → List Name → Result Defined Fault → Read Definition → Type 0
+DefinitionCame text names r o = CameTo (DefinitionIs text names) text r o
 
-pub name_inside : (text : List ℕ) (names : List Name) (r : Named) (o : Read Name) → NameCame text names r o → r.at ≤ length text
-name_inside text names r (ok a s) c = c.1.inside
-name_inside text names r (stop k s) c = c.1.inside
+pub name_inside : (text : List ℕ) (names : List Name) (v : Named) (o : Read Name) → NameCame text names (Ok v) o → v.at ≤ length text
+name_inside text names v (ok a s) c = c.0.inside
+name_inside text names v (stop k s) c = absurd c
 
--- a number that is not 0
-abbrev NotZero : ℕ → Type 0
-NotZero k = k ≢ 0
+pub kind_inside : (text : List ℕ) (v : Kinded) (o : Read Kind) → KindCame text (Ok v) o → v.at ≤ length text
+kind_inside text v (ok a s) c = c.0.inside
+kind_inside text v (stop k s) c = absurd c
 
 module _ (text : List ℕ) (names : List Name) (row : Row) where
   abbrev lastly : Name → Kind → Reader Definition
@@ -68,73 +68,41 @@ module _ (text : List ℕ) (names : List Name) (row : Row) where
 
   -- ---- how each step ends
 
-  name_after_stops : Stops NotZero (name_after names row)
-  name_after_stops =
-      chain_stops NotZero (S_stops NotZero (λ z. omega arith)) (λ u.
-      tested_stops NotZero (room_in names) 2 (λ z. omega arith) (tested_stops NotZero (new_in names row) 14 (λ z. omega arith) (name_stops NotZero (λ z. omega arith))))
-
-  kind_after_stops : Stops NotZero (kind_after row)
-  kind_after_stops = chain_stops NotZero (S_stops NotZero (λ z. omega arith)) (λ u. tested_stops NotZero (ids_in row) 2 (λ z. omega arith) (kind_stops NotZero (λ z. omega arith)))
-
-  status_after_stops : Stops NotZero status_after
-  status_after_stops = chain_stops NotZero (S_stops NotZero (λ z. omega arith)) (λ u. status_stops NotZero (λ z. omega arith))
-
-  module _ (at : ℕ) (n : Named) (c : NameCame text names n (name_after names row (drop at text))) where
-    abbrev Whole : Defined → Type 0
+  module _ (at : ℕ) where
+    abbrev Whole : Result Defined Fault → Type 0
     Whole r = DefinitionCame text names r (definition_in names row (drop at text))
 
-    pub no_name_there : n.number ≢ 0 → (r : Defined) → r ≡ no_definition n.number n.at → Whole r
-    no_name_there p r e = rw (e, stepwise (drop at text)) (by (name_after names row (drop at text)) c)
-      where
-        by : (o : Read Name) → NameCame text names n o → DefinitionCame text names (no_definition n.number n.at) (onward o then)
-        by (ok a s) x = absurd (p x.0)
-        by (stop k s) x = x
+    pub no_name_there : (e : Fault) → NameCame text names (Err e) (name_after names row (drop at text)) → Whole (Err e)
+    no_name_there e c = rw (stepwise (drop at text)) (faulty (NameIs text names) (DefinitionIs text names) text then e (name_after names row (drop at text)) c)
 
-    module _ (p : n.number ≡ 0) where
-      named : (a : Name) × (name_after names row (drop at text) ≡ ok a (drop n.at text)) × (name_at text n.place ≡ a) × (n.attribute ≡ number_in names a)
-      named = by (name_after names row (drop at text)) refl c
-        where
-          by : (o : Read Name) → name_after names row (drop at text) ≡ o → NameCame text names n o
-              → (a : Name) × (o ≡ ok a (drop n.at text)) × (name_at text n.place ≡ a) × (n.attribute ≡ number_in names a)
-          by (ok a s) e (i, z, f, g) = (a, ap (λ t. ok a t) (sym z.rest), f, g)
-          by (stop k s) e (i, z) = absurd (name_after_stops (drop at text) s k e (sym i ∙ p))
+    module _ (n : Named) (c : NameCame text names (Ok n) (name_after names row (drop at text))) where
+      behind_name : (r : Result Defined Fault)
+          → ((a : Name) → name_at text n.place ≡ a → n.attribute ≡ number_in names a → DefinitionCame text names r (then a (drop n.at text))) → Whole r
+      behind_name r g =
+          rw (stepwise (drop at text))
+          (onwards (NameIs text names) (DefinitionIs text names) text then n (name_after names row (drop at text)) r c
+          (λ a s p. subst (λ s. DefinitionCame text names r (then a s)) p.0.rest (g a p.1 p.2)))
 
-      behind_name : definition_in names row (drop at text) ≡ then named.0 (drop n.at text)
-      behind_name = stepwise (drop at text) ∙ ap (λ o. onward o then) named.1
+      pub no_kind_there : (e : Fault) → KindCame text (Err e) (kind_after row (drop n.at text)) → Whole (Err e)
+      no_kind_there e d = behind_name (Err e) (λ a p q. faulty (KindIs text) (DefinitionIs text names) text (lastly a) e (kind_after row (drop n.at text)) d)
 
-      module _ (k : Kinded) (d : KindCame text k (kind_after row (drop n.at text))) where
-        pub no_kind_there : k.number ≢ 0 → (r : Defined) → r ≡ no_definition k.number k.at → Whole r
-        no_kind_there q r e = rw (e, behind_name) (by (kind_after row (drop n.at text)) d)
-          where
-            by : (o : Read Kind) → KindCame text k o → DefinitionCame text names (no_definition k.number k.at) (onward o (lastly named.0))
-            by (ok a s) x = absurd (q x.0)
-            by (stop j s) x = x
+      module _ (k : Kinded) (d : KindCame text (Ok k) (kind_after row (drop n.at text))) where
+        behind_kind : (r : Result Defined Fault)
+            → ((a : Name) (y : Kind) → name_at text n.place ≡ a → n.attribute ≡ number_in names a → kind_of k.kind ≡ kind_number y → DefinitionCame text names r (lastly a y (drop k.at text)))
+            → Whole r
+        behind_kind r g =
+            behind_name r
+            (λ a p q. onwards (KindIs text) (DefinitionIs text names) text (lastly a) k (kind_after row (drop n.at text)) r d
+            (λ y s i. subst (λ s. DefinitionCame text names r (lastly a y s)) i.0.rest (g a y p q i.1)))
 
-        module _ (q : k.number ≡ 0) where
-          kinded : (y : Kind) × (kind_after row (drop n.at text) ≡ ok y (drop k.at text)) × (k.kind ≡ kind_number y)
-          kinded = by (kind_after row (drop n.at text)) refl d
-            where
-              by : (o : Read Kind) → kind_after row (drop n.at text) ≡ o → KindCame text k o → (y : Kind) × (o ≡ ok y (drop k.at text)) × (k.kind ≡ kind_number y)
-              by (ok y s) e (i, z, f) = (y, ap (λ t. ok y t) (sym z.rest), f)
-              by (stop j s) e (i, z) = absurd (kind_after_stops (drop n.at text) s j e (sym i ∙ q))
+        pub no_status_there : (e : Fault) → StatusCame text (Err e) (status_after (drop k.at text)) → Whole (Err e)
+        no_status_there e f =
+            behind_kind (Err e)
+            (λ a y p q i. faulty (StatusIs text) (DefinitionIs text names) text (λ t. pure (record { name = a; kind = y; status = t })) e (status_after (drop k.at text)) f)
 
-          behind_kind : definition_in names row (drop at text) ≡ lastly named.0 kinded.0 (drop k.at text)
-          behind_kind = behind_name ∙ ap (λ o. onward o (lastly named.0)) kinded.1
-
-          module _ (s : Stated) (f : StatusCame text s (status_after (drop k.at text))) where
-            pub no_status_there : s.number ≢ 0 → (r : Defined) → r ≡ no_definition s.number s.at → Whole r
-            no_status_there o r e = rw (e, behind_kind) (by (status_after (drop k.at text)) f)
-              where
-                by : (x : Read Status) → StatusCame text s x
-                    → DefinitionCame text names (no_definition s.number s.at) (onward x (λ t. pure (record { name = named.0; kind = kinded.0; status = t })))
-                by (ok t u) x = absurd (o x.0)
-                by (stop j u) x = x
-
-            pub all_there : s.number ≡ 0 → Whole (record { number = 0; at = s.at; place = n.place; attribute = n.attribute; kind = k.kind; status = s.status })
-            all_there o = rw behind_kind (by (status_after (drop k.at text)) refl f)
-              where
-                by : (x : Read Status) → status_after (drop k.at text) ≡ x → StatusCame text s x
-                    → DefinitionCame text names (record { number = 0; at = s.at; place = n.place; attribute = n.attribute; kind = k.kind; status = s.status })
-                    (onward x (λ t. pure (record { name = named.0; kind = kinded.0; status = t })))
-                by (ok t u) e (i, z, g) = (refl, z, named.2, named.3, kinded.2, g)
-                by (stop j u) e (i, z) = absurd (status_after_stops (drop k.at text) u j e (sym i ∙ o))
+        pub all_there : (s : Stated) → StatusCame text (Ok s) (status_after (drop k.at text))
+            → Whole (Ok (record { place = n.place; attribute = n.attribute; kind = k.kind; status = s.status; at = s.at }))
+        all_there s f =
+            behind_kind (Ok (record { place = n.place; attribute = n.attribute; kind = k.kind; status = s.status; at = s.at }))
+            (λ a y p q i. onwards (StatusIs text) (DefinitionIs text names) text (λ t. pure (record { name = a; kind = y; status = t })) s (status_after (drop k.at text))
+            (Ok (record { place = n.place; attribute = n.attribute; kind = k.kind; status = s.status; at = s.at })) f (λ t u z. (z.0, p, q, i, z.1)))

@@ -1,6 +1,6 @@
 -- An ELEMENT declaration: its head, its content, its end; and where its parts stand. Assumes nothing.
-use Rattle.std.specs.Prelude.{◌≡◌, refl, ◌≢◌, Bool, true, ◌&&◌, List, ℕ, ◌≤◌, length, drop}
-use Rattle.std.proofs.Common.{sym, ap, ◌∙◌, arith}
+use Rattle.std.specs.Prelude.{◌≡◌, refl, Bool, true, ◌&&◌, Result, Ok, Err, List, ℕ, ◌≤◌, length, drop}
+use Rattle.std.proofs.Common.{◌∙◌}
 use Rattle.std.proofs.Math.Bool.{and-eq-true_iff}
 use Rattle.paper.specs.Dtd.Letters.{Name, word_element}
 use Rattle.paper.specs.Dtd.Declarations.{each, Content, empty, text as pcdata, model, Declaration, element, element_names}
@@ -9,15 +9,15 @@ use Rattle.paper.specs.Dtd.Reading.{contentspec, elementdecl}
 use Rattle.paper.specs.Dtd.Limits.{content_kept}
 use Rattle.paper.specs.Dtd.Numbering.{model_fits}
 use Rattle.dtd_laws.specs.Contents.{content_exact}
-use Rattle.dtd_laws.specs.Refusals.{content_stops}
-use Rattle.dtd_words.specs.declared.Step.{Step}
+use Rattle.dtd_words.specs.declared.Fault.{Fault}
 use Rattle.dtd_words.specs.Words.{Came}
 use Rattle.dtd_names.specs.Named.{name_at}
 use Rattle.dtd_contents.specs.declared.Specification.{Specification}
-use Rattle.dtd_contents.specs.Contents.{Specified}
+use Rattle.dtd_contents.specs.Contents.{Specified, told}
+use Rattle.dtd_elements.specs.declared.Head.{Head}
 use Rattle.dtd_elements.specs.declared.Element.{Element}
-use Rattle.dtd_elements.specs.Steps.{Gave, Went, went, failed}
-use Rattle.dtd_elements.specs.Heads.{ending, keyword, new_name, after_name, after_space, heading, heading_stops}
+use Rattle.dtd_elements.specs.Steps.{Gave, Went, went, failed, broke_off}
+use Rattle.dtd_elements.specs.Heads.{ending, new_name, after_name, after_space, heading}
 use Rattle.dtd_elements.specs.Stored.{ContentAt}
 
 module _ (known : Name → Bool) where
@@ -76,10 +76,6 @@ module _ (known : Name → Bool) where
 
 -- ---- step by step
 
--- what is answered
-abbrev pub answer : (number at name content end : ℕ) → Element
-answer k p n c e = record { number = k; at = p; name = n; content = c; end = e }
-
 -- an element of that name, whose content stands from p to before q
 pub record Stands (text : List ℕ) (name p q : ℕ) (d : Declaration) : Type 0 where
   pub content : Content
@@ -87,57 +83,60 @@ pub record Stands (text : List ℕ) (name p q : ℕ) (d : Declaration) : Type 0 
   pub stands : ContentAt text p q content
 
 module _ (text : List ℕ) (at : ℕ) (known : Name → Bool) (names : List Name) where
-  abbrev Made : ℕ → ℕ → ℕ → ℕ → ℕ → Type 0
-  Made k p b c q = Gave (Stands text b c q) text k p (element_after known names (drop at text))
+  abbrev Of : Head → Name → Type 0
+  Of h n = n ≡ name_at text h.name
 
-  module _ (k p b : ℕ) (x : Gave (λ n. n ≡ name_at text b) text k p (heading names (drop at text))) where
-    pub no_head : k ≢ 0 → Made k p at at at
-    no_head n = failed text (λ n. n ≡ name_at text b) (Stands text at at at) (after_head known) k p (heading names (drop at text)) x n
+  abbrev Is : Element → Declaration → Type 0
+  Is e d = Stands text e.name e.content e.end d
 
-    module _ (i : k ≡ 0) where
-      head_read : Went text (λ n. n ≡ name_at text b) k p (heading names) (drop at text)
-      head_read = went text (λ n. n ≡ name_at text b) k p (heading names) (drop at text) (heading_stops names) x i
+  abbrev Made : Result Element Fault → Type 0
+  Made r = Gave (λ e. e.at) Is text r (element_after known names (drop at text))
 
-      pub head_inside : p ≤ length text
-      head_inside = head_read.inside
+  pub no_head : (f : Fault) → Gave (λ h. h.at) Of text (Err f) (heading names (drop at text)) → Made (Err f)
+  no_head f x = failed text (λ h. h.at) Of (λ e. e.at) Is (after_head known) f (heading names (drop at text)) x
 
-      -- c: what the content came to
-      module _ (c : Specification) (y : Specified text c (contentspec known (drop p text))) where
-        gave : Gave (λ d. Unit {0}) text c.number c.at (contentspec known (drop p text))
-        gave = by (contentspec known (drop p text)) y
-          where
-            by : (o : Read Content) → Specified text c o → Gave (λ d. Unit {0}) text c.number c.at o
-            by (ok d r) (i, j, k, l) = (i, j, tt)
-            by (stop k r) z = z
+  module _ (h : Head) (x : Gave (λ h. h.at) Of text (Ok h) (heading names (drop at text))) where
+    head_read : Went text (λ h. h.at) Of h (heading names) (drop at text)
+    head_read = went text (λ h. h.at) Of h (heading names) (drop at text) x
 
-        pub no_content : c.number ≢ 0 → Made c.number c.at at at at
-        no_content n =
-            rw head_read.read
-            (failed text (λ d. Unit {0}) (Stands text at at at) (after_content known head_read.value) c.number c.at (contentspec known (drop p text)) gave n)
+    pub head_inside : h.at ≤ length text
+    head_inside = head_read.inside
 
-        module _ (o : c.number ≡ 0) where
-          content_read : Went text (λ d. Unit {0}) c.number c.at (contentspec known) (drop p text)
-          content_read =
-              went text (λ d. Unit {0}) c.number c.at (contentspec known) (drop p text)
-              (content_stops (λ k. k ≢ 0) (λ z. absurd (omega arith)) known (λ z. absurd (omega arith))) gave o
+    abbrev Told : Specification → Content → Type 0
+    Told v c = v.content ≡ told c
 
-          pub content_inside : c.at ≤ length text
-          content_inside = content_read.inside
+    pub no_content : (f : Fault) → Specified text (Err f) (contentspec known (drop h.at text)) → Made (Err f)
+    no_content f y =
+        rw head_read.read
+        (failed text (λ v. v.at) Told (λ e. e.at) Is (after_content known head_read.value) f (contentspec known (drop h.at text)) y)
 
-          stands : ContentAt text p c.at content_read.value
-          stands =
-              let (s, f) = (content_exact known model_fits {n = 0}).gives content_read.read in
-              record { spelled = s; inside = content_read.inside; fits = kept content_read.value f }
-            where
-              kept : (c : Content) → content_kept (λ p. each p known && model_fits p) c ≡ true → content_kept model_fits c ≡ true
-              kept empty f = refl
-              kept pcdata f = refl
-              kept (model p) f = ((and-eq-true_iff (each p known) (model_fits p)).0 f).1
+    -- c: the content
+    module _ (c : Specification) (y : Specified text (Ok c) (contentspec known (drop h.at text))) where
+      content_read : Went text (λ v. v.at) Told c (contentspec known) (drop h.at text)
+      content_read = went text (λ v. v.at) Told c (contentspec known) (drop h.at text) y
 
-          pub made : (e : Step) → Came text e (ending (drop c.at text)) → Made e.number e.at b p c.at
-          made e z = rw (head_read.read, content_read.read) (by (ending (drop c.at text)) z)
-            where
-              by : (q : Read (Unit {0})) → Came text e q
-                  → Gave (Stands text b p c.at) text e.number e.at (onward q (λ u. pure (element head_read.value content_read.value)))
-              by (stop k r) g = g
-              by (ok u r) (l, m) = (l, m, record { content = content_read.value; is = rw head_read.holds; stands = stands })
+      pub content_inside : c.at ≤ length text
+      content_inside = content_read.inside
+
+      stands : ContentAt text h.at c.at content_read.value
+      stands =
+          let (s, f) = (content_exact known model_fits {n = 0}).gives content_read.read in
+          record { spelled = s; inside = content_read.inside; fits = kept content_read.value f }
+        where
+          kept : (c : Content) → content_kept (λ p. each p known && model_fits p) c ≡ true → content_kept model_fits c ≡ true
+          kept empty f = refl
+          kept pcdata f = refl
+          kept (model p) f = ((and-eq-true_iff (each p known) (model_fits p)).0 f).1
+
+      pub no_end : (f : Fault) → Came text (Err f) (ending (drop c.at text)) → Made (Err f)
+      no_end f z =
+          rw (head_read.read, content_read.read)
+          (broke_off text (λ e. e.at) Is (λ u. pure (element head_read.value content_read.value)) f (ending (drop c.at text)) z)
+
+      pub made : (e : ℕ) → Came text (Ok e) (ending (drop c.at text)) → Made (Ok (record { name = h.name; content = h.at; end = c.at; at = e }))
+      made e z = rw (head_read.read, content_read.read) (by (ending (drop c.at text)) z)
+        where
+          by : (q : Read (Unit {0})) → Came text (Ok e) q
+              → Gave (λ e. e.at) Is text (Ok (record { name = h.name; content = h.at; end = c.at; at = e })) (onward q (λ u. pure (element head_read.value content_read.value)))
+          by (stop k r) g = absurd g
+          by (ok u r) m = (m, record { content = content_read.value; is = rw head_read.holds; stands = stands })

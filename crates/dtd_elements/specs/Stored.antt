@@ -1,5 +1,5 @@
 -- Where the contents of declared elements stand in the text. Assumes nothing.
-use Rattle.std.specs.Prelude.{◌≡◌, refl, true, List, [], ◌∷◌, ◌++◌, ℕ, ◌≤◌, length, drop}
+use Rattle.std.specs.Prelude.{◌≡◌, true, List, [], ◌∷◌, ◌++◌, ℕ, ◌≤◌, length, drop}
 use Rattle.paper.specs.Dtd.Declarations.{Content, Declaration, element, attlist}
 use Rattle.paper.specs.Dtd.Grammar as G
 use Rattle.paper.specs.Dtd.Limits.{content_kept}

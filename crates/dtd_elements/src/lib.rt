@@ -1,118 +1,81 @@
 // Item 4, "DTD files as they come": ELEMENT declarations at a place of a DTD text. Assumes nothing.
 #![tactic(auto)]
 
-ghost use Rattle.std.specs.Prelude.{◌≡◌, ◌≤◌, length, take, drop};
+ghost use Rattle.std.specs.Prelude.{◌≡◌, ◌≤◌, option_copied, length, drop};
 ghost use Rattle.dtd_words.specs.Words.{Came};
-ghost use Rattle.dtd_names.specs.Named.{name_at, names_at, known_by};
+ghost use Rattle.dtd_names.specs.Named.{name_at, names_at, known_in};
 ghost use Rattle.dtd_elements.specs.Steps.{Gave};
 ghost use Rattle.dtd_elements.specs.Heads.{heading, keyword, new_name, ending, Declaring};
-ghost use Rattle.dtd_elements.specs.Elements.{element_after, Stands, answer};
+ghost use Rattle.dtd_elements.specs.Elements.{element_after, Stands};
 
 use dtd_contents::contentspec_at;
-use dtd_definitions::white_at;
 use dtd_names::{find_name, name_at};
-use dtd_words::{Step, skip_white, word_at};
-use paper::{DTD_TEXT, MOST_ELEMENTS, SCHEMA};
+use dtd_words::{Fault, skip_white, white_at, word_at};
+use paper::{MOST_ELEMENTS, Refusal};
 
 // A word, and white space.
-pub fn keyword_at(text: &[u8], at: usize, word: &[u8]) -> Step
+pub fn keyword_at(text: &[u8], at: usize, word: &[u8]) -> Result<usize, Fault>
     requires { at ≤ length text.now }
     ensures { Came text.now result (keyword word.now (drop at text.now)) }
 {
-    let w = word_at(text, at, word);
-    if w.number != 0 {
-        return w;
-    }
-    white_at(text, w.at)
+    let end = word_at(text, at, word)?;
+    white_at(text, end)
 }
 
 // `S? >`: the end of a declaration.
-pub fn end_at(text: &[u8], at: usize) -> Step
+pub fn end_at(text: &[u8], at: usize) -> Result<usize, Fault>
     requires { at ≤ length text.now }
     ensures { Came text.now result (ending (drop at text.now)) }
 {
     word_at(text, skip_white(text, at), b">")
 }
 
-// What the head of a declaration came to, and where its name begins.
-#[derive(Clone, Copy)]
-pub struct Head {
-    pub number: u32,
-    pub at: usize,
-    pub name: usize,
+// The name of an element that is declared: "An element [..] declared twice", "the 49th element where its name ends, if the name is new".
+fn new_element(text: &[u8], at: usize, elements: &[usize]) -> Result<usize, Fault>
+    requires { Declaring text.now at elements.now }
+    ensures { Gave (λ e. e) (λ e n. n ≡ name_at text.now at) text.now result (new_name (names_at text.now elements.now) (drop at text.now)) }
+{
+    let end = name_at(text, at)?;
+    if find_name(text, elements, at) < elements.len() {
+        return Err(Fault {
+            refusal: Refusal::DtdText,
+            at,
+        });
+    }
+    if elements.len() == MOST_ELEMENTS {
+        return Err(Fault {
+            refusal: Refusal::Schema,
+            at,
+        });
+    }
+    Ok(end)
 }
 
-// The name of an element that is declared: "An element [..] declared twice", "the 49th element where its name ends, if the name is new".
-fn new_element(text: &[u8], at: usize, elements: &[usize], count: usize) -> Step
-    requires { Declaring text.now at elements.now count }
-    ensures { Gave (λ n. n ≡ name_at text.now at) text.now result.number result.at (new_name (names_at text.now (take count elements.now)) (drop at text.now)) }
-{
-    let n = name_at(text, at);
-    if n.number != 0 {
-        return n;
-    }
-    if find_name(text, elements, count, at) < count {
-        return Step {
-            number: DTD_TEXT,
-            at,
-        };
-    }
-    if count == MOST_ELEMENTS {
-        return Step { number: SCHEMA, at };
-    }
-    n
+// The head of a declaration: where its name begins, and the place behind it.
+#[derive(Clone, Copy)]
+pub struct Head {
+    pub name: usize,
+    pub at: usize,
 }
 
 // Behind `<!`: `ELEMENT`, white space, the name, white space.
-pub fn head_at(text: &[u8], at: usize, elements: &[usize], count: usize) -> Head
-    requires { Declaring text.now at elements.now count }
-    ensures { Gave (λ n. n ≡ name_at text.now result.name) text.now result.number result.at (heading (names_at text.now (take count elements.now)) (drop at text.now)) }
+pub fn head_at(text: &[u8], at: usize, elements: &[usize]) -> Result<Head, Fault>
+    requires { Declaring text.now at elements.now }
+    ensures { Gave (λ h. h.at) (λ h n. n ≡ name_at text.now h.name) text.now result (heading (names_at text.now elements.now) (drop at text.now)) }
 {
-    let s = keyword_at(text, at, b"ELEMENT");
-    if s.number != 0 {
-        return Head {
-            number: s.number,
-            at: s.at,
-            name: at,
-        };
-    }
-    let n = new_element(text, s.at, elements, count);
-    if n.number != 0 {
-        return Head {
-            number: n.number,
-            at: n.at,
-            name: at,
-        };
-    }
-    let t = white_at(text, n.at);
-    Head {
-        number: t.number,
-        at: t.at,
-        name: s.at,
-    }
+    let name = keyword_at(text, at, b"ELEMENT")?;
+    let end = new_element(text, name, elements)?;
+    let behind = white_at(text, end)?;
+    Ok(Head { name, at: behind })
 }
 
-// What an ELEMENT declaration came to; where its name begins, and where its content begins and ends.
+// An ELEMENT declaration: where its name begins, where its content begins and ends, and the place behind it.
 #[derive(Clone, Copy)]
 pub struct Element {
-    pub number: u32,
-    pub at: usize,
     pub name: usize,
     pub content: usize,
     pub end: usize,
-}
-
-// A declaration that behind `<!` at a place is refused.
-fn refused(number: u32, fault: usize, at: usize) -> Element
-    ensures { result ≡ answer number fault at at at }
-{
-    Element {
-        number,
-        at: fault,
-        name: at,
-        content: at,
-        end: at,
-    }
+    pub at: usize,
 }
 
 // An ELEMENT declaration, from behind `<!` on.
@@ -120,29 +83,18 @@ pub fn element_at(
     text: &[u8],
     at: usize,
     elements: &[usize],
-    count: usize,
-    strict: bool,
-    known: &[usize],
-    total: usize,
-) -> Element
-    requires declaring { Declaring text.now at elements.now count }
-    requires total_in_bounds { total ≤ length known.now }
-    ensures { Gave (Stands text.now result.name result.content result.end) text.now result.number result.at (element_after (known_by strict (names_at text.now (take total known.now))) (names_at text.now (take count elements.now)) (drop at text.now)) }
+    known: Option<&[usize]>,
+) -> Result<Element, Fault>
+    requires { Declaring text.now at elements.now }
+    ensures { Gave (λ e. e.at) (λ e d. Stands text.now e.name e.content e.end d) text.now result (element_after (known_in text.now (option_copied known.entry)) (names_at text.now elements.now) (drop at text.now)) }
 {
-    let h = head_at(text, at, elements, count);
-    if h.number != 0 {
-        return refused(h.number, h.at, at);
-    }
-    let c = contentspec_at(text, h.at, strict, known, total);
-    if c.number != 0 {
-        return refused(c.number, c.at, at);
-    }
-    let e = end_at(text, c.at);
-    Element {
-        number: e.number,
-        at: e.at,
-        name: h.name,
-        content: h.at,
-        end: c.at,
-    }
+    let head = head_at(text, at, elements)?;
+    let content = contentspec_at(text, head.at, known)?;
+    let behind = end_at(text, content.at)?;
+    Ok(Element {
+        name: head.name,
+        content: head.at,
+        end: content.at,
+        at: behind,
+    })
 }

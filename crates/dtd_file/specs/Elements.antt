@@ -12,41 +12,39 @@ use Rattle.dtd_row_bytes.specs.Rows.{row_written}
 use Rattle.dtd_content_bytes.specs.Contents.{content_bytes, Specified, ContentPut}
 
 -- its content and its row
-abbrev pub element_bytes : (text names : List ℕ) → ℕ → Content → Row → List ℕ
-element_bytes text names count c row = content_bytes text names count c ++ row_written row
+abbrev pub element_bytes : (text names : List ℕ) → Content → Row → List ℕ
+element_bytes text names c row = content_bytes text names c ++ row_written row
 
 -- A content is spelled from `from` to before `to`, within a model's limits, and there is room for it and the row from a place on.
-pub record Ready (text names : List ℕ) (from to count : ℕ) (row : Row) (out : List ℕ) (at : ℕ) : Type 0 where
+pub record Ready (text names : List ℕ) (from to : ℕ) (row : Row) (out : List ℕ) (at : ℕ) : Type 0 where
   pub content : Content
   pub spelled : contentspec content (drop from text) (drop to text)
   pub inside : to ≤ length text
-  pub known : count ≤ length names
-  pub few : count ≤ most_elements
+  pub few : length names ≤ most_elements
   pub fits : content_kept model_fits content ≡ true
-  pub room : at + length (element_bytes text names count content row) ≤ length out
+  pub room : at + length (element_bytes text names content row) ≤ length out
 
 -- whichever content is spelled there, it is put, and the row after it
-abbrev pub ElementPut : (text names : List ℕ) (from to count : ℕ) (row : Row) (before : List ℕ) (at r : ℕ) (after : List ℕ) → Type 0
-ElementPut text names from to count row before at r after =
-    (c : Content) → contentspec c (drop from text) (drop to text) → Put before at (element_bytes text names count c row) r after
+abbrev pub ElementPut : (text names : List ℕ) (from to : ℕ) (row : Row) (before : List ℕ) (at r : ℕ) (after : List ℕ) → Type 0
+ElementPut text names from to row before at r after =
+    (c : Content) → contentspec c (drop from text) (drop to text) → Put before at (element_bytes text names c row) r after
 
-module _ (text names : List ℕ) (from to count : ℕ) (row : Row) (out : List ℕ) (at : ℕ) (s : Ready text names from to count row out at) where
-  pub content_ready : Specified text names from to count out at
+module _ (text names : List ℕ) (from to : ℕ) (row : Row) (out : List ℕ) (at : ℕ) (s : Ready text names from to row out at) where
+  pub content_ready : Specified text names from to out at
   content_ready = record {
     content = s.content;
     spelled = s.spelled;
     inside = s.inside;
-    known = s.known;
     few = s.few;
     fits = s.fits;
-    room = omega (arith, s.room, length-append (content_bytes text names count s.content) (row_written row));
+    room = omega (arith, s.room, length-append (content_bytes text names s.content) (row_written row));
   }
 
-  module _ (next : ℕ) (mid : List ℕ) (p : ContentPut text names from to count out at next mid) where
+  module _ (next : ℕ) (mid : List ℕ) (p : ContentPut text names from to out at next mid) where
     pub row_room : next + length (row_written row) ≤ length mid
     row_room =
         let q = p s.content s.spelled in
-        omega (arith, s.room, length-append (content_bytes text names count s.content) (row_written row), q.place, put_length q)
+        omega (arith, s.room, length-append (content_bytes text names s.content) (row_written row), q.place, put_length q)
 
-    pub element_put : (r : ℕ) (after : List ℕ) → Put mid next (row_written row) r after → ElementPut text names from to count row out at r after
+    pub element_put : (r : ℕ) (after : List ℕ) → Put mid next (row_written row) r after → ElementPut text names from to row out at r after
     element_put r after q c e = put_both (p c e) q

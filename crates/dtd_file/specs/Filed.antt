@@ -1,5 +1,5 @@
 -- What is told of the declarations of a text, and the schema file that is put for it. Assumes nothing.
-use Rattle.std.specs.Prelude.{◌≡◌, true, List, [], ◌∷◌, ℕ, suc, ◌≤◌, length, take, drop, get_or}
+use Rattle.std.specs.Prelude.{◌≡◌, true, List, [], ◌∷◌, ℕ, suc, ◌≤◌, length, drop, get_or}
 use Rattle.paper.specs.Basics.{most_elements, most_attributes}
 use Rattle.paper.specs.SchemaWritten.{most_schema_file}
 use Rattle.paper.specs.Dtd.Letters.{Name}
@@ -27,23 +27,22 @@ Stand text contents ends rows all (element n c ∷ ds) j = Stands text contents 
 Stand text contents ends rows all (attlist n l ∷ ds) j = Stand text contents ends rows all ds j
 
 -- the declarations ds stand so in the text, and the buffer is as long as the longest schema file
-pub record Filed (text elements contents ends : List ℕ) (count : ℕ) (rows out : List ℕ) (ds : List Declaration) : Type 0 where
-  pub few : count ≤ most_elements
-  pub some_elements : count ≤ length elements
-  pub some_contents : count ≤ length contents
-  pub some_ends : count ≤ length ends
+pub record Filed (text elements contents ends rows out : List ℕ) (ds : List Declaration) : Type 0 where
+  pub few : length elements ≤ most_elements
+  pub some_contents : length elements ≤ length contents
+  pub some_ends : length elements ≤ length ends
   pub some_rows : most_numbers ≤ length rows
   pub long : length out ≡ most_schema_file
-  pub names : names_at text (take count elements) ≡ element_names ds
+  pub names : names_at text elements ≡ element_names ds
   pub few_attributes : length (attribute_names ds) ≤ most_attributes
   pub stand : Stand text contents ends rows ds ds 0
 
 -- some declarations do
-pub record Files (text elements contents ends : List ℕ) (count : ℕ) (rows out : List ℕ) : Type 0 where
+pub record Files (text elements contents ends rows out : List ℕ) : Type 0 where
   pub ds : List Declaration
-  pub filed : Filed text elements contents ends count rows out ds
+  pub filed : Filed text elements contents ends rows out ds
 
 -- whichever declarations do, their file is put
-abbrev pub FilePut : (text elements contents ends : List ℕ) (count : ℕ) (rows before : List ℕ) (r : ℕ) (after : List ℕ) → Type 0
-FilePut text elements contents ends count rows before r after =
-    (ds : List Declaration) → Filed text elements contents ends count rows before ds → Put before 0 (schema_file ds) r after
+abbrev pub FilePut : (text elements contents ends rows before : List ℕ) (r : ℕ) (after : List ℕ) → Type 0
+FilePut text elements contents ends rows before r after =
+    (ds : List Declaration) → Filed text elements contents ends rows before ds → Put before 0 (schema_file ds) r after

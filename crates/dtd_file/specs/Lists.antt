@@ -1,6 +1,7 @@
 -- The elements of declarations in a row: the next one, and how many bytes they have. Assumes nothing.
 use Rattle.std.specs.Prelude.{◌≡◌, refl, List, [], ◌∷◌, ◌++◌, map, ℕ, suc, ◌*◌, ◌≤◌, ◌<◌, length}
 use Rattle.std.proofs.Common.{sym, ap, ap₂, ◌∙◌, arith, length-append}
+use Rattle.std.proofs.lemmas.List.{length-map}
 use Rattle.paper.specs.Basics.{concat}
 use Rattle.paper.specs.Files.{file_of}
 use Rattle.paper.specs.Schema.{Element}
@@ -9,7 +10,7 @@ use Rattle.paper.specs.Dtd.Letters.{Name}
 use Rattle.paper.specs.Dtd.Declarations.{Content, Declaration, element, attlist, element_names, defined_for, attribute_names}
 use Rattle.paper.specs.Dtd.Numbering.{number_in, content_of, attributes_from, elements_from}
 use Rattle.numbers.specs.Small.{file_both}
-use Rattle.dtd_names.specs.Turns.{names_long}
+use Rattle.dtd_names.specs.Named.{name_at}
 use Rattle.dtd_row_bytes.specs.Rows.{attributes_written, row_written, row_short}
 use Rattle.dtd_row_bytes.specs.Walk.{row_written_lem}
 use Rattle.dtd_content_bytes.specs.Contents.{content_bytes, content_short}
@@ -38,12 +39,12 @@ rest_none ds [] h = refl
 rest_none ds (element n c ∷ left) h = absurd (omega arith)
 rest_none ds (attlist n l ∷ left) h = rest_none ds left h
 
-module _ (text elements contents ends : List ℕ) (count : ℕ) (rows out : List ℕ) (ds : List Declaration) (f : Filed text elements contents ends count rows out ds) where
-  pub names_count : length (element_names ds) ≡ count
-  names_count = ap length (sym f.names) ∙ names_long text count elements f.some_elements
+module _ (text elements contents ends rows out : List ℕ) (ds : List Declaration) (f : Filed text elements contents ends rows out ds) where
+  pub names_count : length (element_names ds) ≡ length elements
+  names_count = ap length (sym f.names) ∙ length-map elements (name_at text)
 
   element_bytes_lem : (n : Name) (c : Content) (j : ℕ) → Stands text contents ends rows ds n c j
-      → file_of (element_written (element_of ds n c)) ≡ element_bytes text elements count c (row_at rows j)
+      → file_of (element_written (element_of ds n c)) ≡ element_bytes text elements c (row_at rows j)
   element_bytes_lem n c j s =
       file_both (content_written (content_of (number_in (element_names ds)) c)) (attributes_written (attributes_from 0 (attribute_names ds) (defined_for n ds)))
       ∙ ap₂ (λ x y. x ++ y) (ap (λ l. file_of (content_written (content_of (number_in l) c))) (sym f.names))
@@ -51,7 +52,7 @@ module _ (text elements contents ends : List ℕ) (count : ℕ) (rows out : List
 
   -- one more element
   rest_more : (n : Name) (c : Content) (j : ℕ) (left : List Declaration) → Stands text contents ends rows ds n c j
-      → rest_bytes ds (element n c ∷ left) ≡ element_bytes text elements count c (row_at rows j) ++ rest_bytes ds left
+      → rest_bytes ds (element n c ∷ left) ≡ element_bytes text elements c (row_at rows j) ++ rest_bytes ds left
   rest_more n c j left s =
       file_both (element_written (element_of ds n c)) (concat (map element_written (elements_from ds left)))
       ∙ ap (λ l. l ++ rest_bytes ds left) (element_bytes_lem n c j s)
@@ -64,7 +65,7 @@ module _ (text elements contents ends : List ℕ) (count : ℕ) (rows out : List
     pub here : Stands text contents ends rows ds name content j
     pub later : Stand text contents ends rows ds rest (suc j)
     pub one_less : length (element_names left) ≡ suc (length (element_names rest))
-    pub bytes : rest_bytes ds left ≡ element_bytes text elements count content (row_at rows j) ++ rest_bytes ds rest
+    pub bytes : rest_bytes ds left ≡ element_bytes text elements content (row_at rows j) ++ rest_bytes ds rest
 
   pub next : (left : List Declaration) (j : ℕ) → 0 < length (element_names left) → Stand text contents ends rows ds left j → Next left j
   next [] j h s = absurd (omega arith)
@@ -93,14 +94,14 @@ module _ (text elements contents ends : List ℕ) (count : ℕ) (rows out : List
   pub rest_short : (left : List Declaration) (j : ℕ) → Stand text contents ends rows ds left j → length (rest_bytes ds left) ≤ length (element_names left) * 451
   rest_short [] j s = omega arith
   rest_short (element n c ∷ left) j (a, b) =
-      let x : List ℕ = content_bytes text elements count c in
+      let x : List ℕ = content_bytes text elements c in
       let y : List ℕ = row_written (row_at rows j) in
       omega (
         arith,
         ap length (rest_more n c j left a),
         length-append (x ++ y) (rest_bytes ds left),
         length-append x y,
-        content_short text elements count c f.some_elements f.few a.fits,
+        content_short text elements c f.few a.fits,
         row_short (row_at rows j),
         rest_short left (suc j) b,
       )

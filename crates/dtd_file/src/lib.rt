@@ -21,15 +21,14 @@ fn put_element(
     from: usize,
     to: usize,
     names: &[usize],
-    count: usize,
     row: Row,
     out: &mut [u8],
     at: usize,
 ) -> usize
-    requires { Ready text.now names.now from to count row out.old at }
-    ensures { ElementPut text.now names.now from to count row out.old at result out.new }
+    requires { Ready text.now names.now from to row out.old at }
+    ensures { ElementPut text.now names.now from to row out.old at result out.new }
 {
-    let next = put_content(text, from, to, names, count, out, at);
+    let next = put_content(text, from, to, names, out, at);
     put_row(row, out, next)
 }
 
@@ -39,19 +38,16 @@ fn put_elements(
     elements: &[usize],
     contents: &[usize],
     ends: &[usize],
-    count: usize,
     rows: &[u64],
     out: &mut [u8],
 ) -> usize
-    requires { Files text.now elements.now contents.now ends.now count rows.now out.old }
-    ensures { ElementsPut text.now elements.now contents.now ends.now count rows.now out.old result out.new }
+    requires { Files text.now elements.now contents.now ends.now rows.now out.old }
+    ensures { ElementsPut text.now elements.now contents.now ends.now rows.now out.old result out.new }
 {
     let mut next: usize = 2;
-    let mut j: usize = 0;
-    while j < count {
+    for j in 0..elements.len() {
         let row = row_at(rows, j);
-        next = put_element(text, contents[j], ends[j], elements, count, row, out, next);
-        j += 1;
+        next = put_element(text, contents[j], ends[j], elements, row, out, next);
     }
     next
 }
@@ -62,14 +58,13 @@ pub fn put_file(
     elements: &[usize],
     contents: &[usize],
     ends: &[usize],
-    count: usize,
     rows: &[u64],
     out: &mut [u8],
 ) -> usize
-    requires { Files text.now elements.now contents.now ends.now count rows.now out.old }
-    ensures { FilePut text.now elements.now contents.now ends.now count rows.now out.old result out.new }
+    requires { Files text.now elements.now contents.now ends.now rows.now out.old }
+    ensures { FilePut text.now elements.now contents.now ends.now rows.now out.old result out.new }
 {
-    out[0] = count as u8;
+    out[0] = elements.len() as u8;
     out[1] = ROOT;
-    put_elements(text, elements, contents, ends, count, rows, out)
+    put_elements(text, elements, contents, ends, rows, out)
 }

@@ -55,15 +55,14 @@ pub fn find_row(
     upto: usize,
     e: usize,
     attributes: &[usize],
-    count: usize,
     heads: &[usize],
     many: usize,
     rows: &[u64],
 ) -> Found
-    requires { Ready text.now upto attributes.now count × Heads text.now (declared_to text.now upto) heads.now many rows.now }
+    requires { Ready text.now upto attributes.now × Heads text.now (declared_to text.now upto) heads.now many rows.now }
     ensures { RowFound text.now upto e heads.now many result }
 {
-    let h = find_name(text, heads, many, e);
+    let h = find_name(text, &heads[..many], e);
     if h < many {
         let row = row_at(rows, h);
         return Found { place: h, row };
@@ -72,7 +71,7 @@ pub fn find_row(
         let row = no_row();
         return Found { place: h, row };
     }
-    let row = row_before(text, upto, e, attributes, count);
+    let row = row_before(text, upto, e, attributes);
     Found { place: h, row }
 }
 

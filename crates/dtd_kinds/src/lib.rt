@@ -1,155 +1,111 @@
 // Item 4, "DTD files as they come": "the four kinds and two statuses" of attributes, as the readers of `paper` say. Assumes nothing.
 #![tactic(auto)]
 
-ghost use Rattle.std.specs.Prelude.{◌≡◌, ◌≤◌, eqb, length, drop};
-ghost use Rattle.paper.specs.Dtd.Letters.{begins};
+ghost use Rattle.std.specs.Prelude.{◌≡◌, ◌≤◌, length, drop};
 ghost use Rattle.paper.specs.Dtd.Readers.{word_end, reference, kind, status};
 ghost use Rattle.dtd_words.specs.Words.{Came};
 ghost use Rattle.dtd_kinds.specs.Kinds.{whole_word, KindCame, StatusCame};
 
-use dtd_words::{Step, is_more, word_at};
-use paper::{CDATA, DTD_TEXT, ID, IDREF, IDREFS, IMPLIED, REQUIRED};
-
-// Whether that byte stands there.
-pub fn byte_at(text: &[u8], at: usize, byte: u8) -> bool
-    ensures { result ≡ begins (eqb byte) (drop at text.now) }
-{
-    if text.len() <= at {
-        return false;
-    }
-    byte == text[at]
-}
+use dtd_words::{Fault, byte_at, more_at, word_at};
+use paper::{Kind, Refusal, Status};
 
 // A word ends here: no character of a name follows.
-fn end_at(text: &[u8], at: usize) -> Step
+fn end_at(text: &[u8], at: usize) -> Result<usize, Fault>
     requires { at ≤ length text.now }
     ensures { Came text.now result (word_end (drop at text.now)) }
 {
-    if at < text.len() {
-        if is_more(text[at]) {
-            return Step {
-                number: DTD_TEXT,
-                at,
-            };
-        }
+    if more_at(text, at) {
+        Err(Fault {
+            refusal: Refusal::DtdText,
+            at,
+        })
+    } else {
+        Ok(at)
     }
-    Step { number: 0, at }
 }
 
 // Those bytes, and no character of a name after them.
-fn whole_at(text: &[u8], at: usize, word: &[u8]) -> Step
+fn whole_at(text: &[u8], at: usize, word: &[u8]) -> Result<usize, Fault>
     requires { at ≤ length text.now }
     ensures { Came text.now result (whole_word word.now (drop at text.now)) }
 {
-    let s = word_at(text, at, word);
-    if s.number != 0 {
-        return s;
-    }
-    end_at(text, s.at)
+    let end = word_at(text, at, word)?;
+    end_at(text, end)
 }
 
-// A kind that was read: 0, the place behind it and its number; or a refusal's number and the place of what is at fault.
+// A kind, and the place behind it.
 #[derive(Clone, Copy)]
 pub struct Kinded {
-    pub number: u32,
+    pub kind: Kind,
     pub at: usize,
-    pub kind: u32,
 }
 
 // Behind "ID", at an R: "REF" or "REFS".
-fn reference_at(text: &[u8], at: usize) -> Kinded
+fn reference_at(text: &[u8], at: usize) -> Result<Kinded, Fault>
     requires { at ≤ length text.now }
     ensures { KindCame text.now result (reference (drop at text.now)) }
 {
-    let s = word_at(text, at, b"REF");
-    if s.number != 0 {
-        return Kinded {
-            number: s.number,
-            at: s.at,
-            kind: IDREF,
-        };
+    let end = word_at(text, at, b"REF")?;
+    if byte_at(text, end, b'S') {
+        let end = whole_at(text, end, b"S")?;
+        return Ok(Kinded {
+            kind: Kind::Idrefs,
+            at: end,
+        });
     }
-    if byte_at(text, s.at, 83) {
-        let e = whole_at(text, s.at, b"S");
-        return Kinded {
-            number: e.number,
-            at: e.at,
-            kind: IDREFS,
-        };
-    }
-    let e = end_at(text, s.at);
-    Kinded {
-        number: e.number,
-        at: e.at,
-        kind: IDREF,
-    }
+    let end = end_at(text, end)?;
+    Ok(Kinded {
+        kind: Kind::Idref,
+        at: end,
+    })
 }
 
 // "CDATA", or "ID" and then nothing, "REF" or "REFS".
-pub fn kind_at(text: &[u8], at: usize) -> Kinded
+pub fn kind_at(text: &[u8], at: usize) -> Result<Kinded, Fault>
     requires { at ≤ length text.now }
     ensures { KindCame text.now result (kind (drop at text.now)) }
 {
-    if byte_at(text, at, 67) {
-        let e = whole_at(text, at, b"CDATA");
-        return Kinded {
-            number: e.number,
-            at: e.at,
-            kind: CDATA,
-        };
+    if byte_at(text, at, b'C') {
+        let end = whole_at(text, at, b"CDATA")?;
+        return Ok(Kinded {
+            kind: Kind::Cdata,
+            at: end,
+        });
     }
-    let s = word_at(text, at, b"ID");
-    if s.number != 0 {
-        return Kinded {
-            number: s.number,
-            at: s.at,
-            kind: ID,
-        };
+    let end = word_at(text, at, b"ID")?;
+    if byte_at(text, end, b'R') {
+        return reference_at(text, end);
     }
-    if byte_at(text, s.at, 82) {
-        return reference_at(text, s.at);
-    }
-    let e = end_at(text, s.at);
-    Kinded {
-        number: e.number,
-        at: e.at,
-        kind: ID,
-    }
+    let end = end_at(text, end)?;
+    Ok(Kinded {
+        kind: Kind::Id,
+        at: end,
+    })
 }
 
-// A status that was read, likewise.
+// A status, and the place behind it.
 #[derive(Clone, Copy)]
 pub struct Stated {
-    pub number: u32,
+    pub status: Status,
     pub at: usize,
-    pub status: u32,
 }
 
 // "#REQUIRED" or "#IMPLIED".
-pub fn status_at(text: &[u8], at: usize) -> Stated
+pub fn status_at(text: &[u8], at: usize) -> Result<Stated, Fault>
     requires { at ≤ length text.now }
     ensures { StatusCame text.now result (status (drop at text.now)) }
 {
-    let s = word_at(text, at, b"#");
-    if s.number != 0 {
-        return Stated {
-            number: s.number,
-            at: s.at,
-            status: REQUIRED,
-        };
+    let end = word_at(text, at, b"#")?;
+    if byte_at(text, end, b'R') {
+        let end = word_at(text, end, b"REQUIRED")?;
+        return Ok(Stated {
+            status: Status::Required,
+            at: end,
+        });
     }
-    if byte_at(text, s.at, 82) {
-        let e = word_at(text, s.at, b"REQUIRED");
-        return Stated {
-            number: e.number,
-            at: e.at,
-            status: REQUIRED,
-        };
-    }
-    let e = word_at(text, s.at, b"IMPLIED");
-    Stated {
-        number: e.number,
-        at: e.at,
-        status: IMPLIED,
-    }
+    let end = word_at(text, end, b"IMPLIED")?;
+    Ok(Stated {
+        status: Status::Implied,
+        at: end,
+    })
 }

@@ -1,5 +1,5 @@
 -- The length of a list of names, as far as there is room. Assumes nothing.
-use Rattle.std.specs.Prelude.{◌≡◌, refl, Bool, true, false, cond, List, ◌++◌, ◌⊎◌, ℕ, ◌+◌, ◌-◌, ◌≤◌, ◌<◌, leb, length, take, get_or}
+use Rattle.std.specs.Prelude.{◌≡◌, refl, Bool, true, false, cond, List, ◌++◌, ◌⊎◌, ℕ, ◌+◌, ◌-◌, ◌≤◌, ◌<◌, leb, length, get_or}
 use Rattle.std.proofs.Common.{sym, ap, ◌∙◌, inl, inr, arith, leb-true, leb-false, le-leb, length-append}
 use Rattle.std.proofs.lemmas.Bool.{lt-leb}
 use Rattle.paper.specs.Dtd.Letters.{Name}
@@ -11,14 +11,8 @@ use Rattle.dtd_list.specs.Lists.{ended, length_ended, listed_both, list_from, li
 abbrev pub up_to : ℕ → ℕ → ℕ
 up_to room n = cond (leb n room) n (room + 1)
 
-pub record Counting (names : List ℕ) (count from room : ℕ) : Type 0 where
-  pub some : count ≤ length names
+pub record Counting (from room : ℕ) : Type 0 where
   pub within : from ≤ room
-  pub small : room < 18446744073709551615
-
-pub record BothCounted (elements : List ℕ) (count : ℕ) (attributes : List ℕ) (defined room : ℕ) : Type 0 where
-  pub some : count ≤ length elements
-  pub some_attributes : defined ≤ length attributes
   pub small : room < 18446744073709551615
 
 -- ---- names in a row
@@ -30,32 +24,32 @@ module _ (room : ℕ) where
   over : (n : ℕ) → room < n → room + 1 ≡ up_to room n
   over n h = rw (lt-leb n room h)
 
-module _ (text names : List ℕ) (count from room : ℕ) where
+module _ (text names : List ℕ) (from room : ℕ) where
   -- n bytes up to the j-th name
   pub record Summed (n j : ℕ) : Type 0 where
-    pub turns : j ≤ count
+    pub turns : j ≤ length names
     pub within : n ≤ room
-    pub all_is : from + length (list_from text names count 0) ≡ n + length (list_from text names count j)
+    pub all_is : from + length (list_from text names 0) ≡ n + length (list_from text names j)
 
-  module _ (c : Counting names count from room) where
+  module _ (c : Counting from room) where
     pub summed_none : Summed from 0
     summed_none = record { turns = omega arith; within = c.within; all_is = refl }
 
     module _ (n j : ℕ) (s : Summed n j) where
-      next_length : j < count → length (list_from text names count j) ≡ length (name_at text (get_or names j 0)) + 1 + length (list_from text names count (j + 1))
-      next_length k = ap length (list_next text names count c.some j k) ∙ length-append (ended (name_at text (get_or names j 0))) (list_from text names count (j + 1))
-          ∙ ap (λ z. z + length (list_from text names count (j + 1))) (length_ended (name_at text (get_or names j 0)))
+      next_length : j < length names → length (list_from text names j) ≡ length (name_at text (get_or names j 0)) + 1 + length (list_from text names (j + 1))
+      next_length k = ap length (list_next text names j k) ∙ length-append (ended (name_at text (get_or names j 0))) (list_from text names (j + 1))
+          ∙ ap (λ z. z + length (list_from text names (j + 1))) (length_ended (name_at text (get_or names j 0)))
 
-      module _ (name : ℕ) (k : j < count) (e : name ≡ length (name_at text (get_or names j 0))) where
-        pub summed_over : room - n ≤ name → room + 1 ≡ up_to room (from + length (listed (names_at text (take count names))))
-        summed_over h = over room (from + length (list_from text names count 0)) (omega (arith, s.within, s.all_is, next_length k))
+      module _ (name : ℕ) (k : j < length names) (e : name ≡ length (name_at text (get_or names j 0))) where
+        pub summed_over : room - n ≤ name → room + 1 ≡ up_to room (from + length (listed (names_at text names)))
+        summed_over h = over room (from + length (list_from text names 0)) (omega (arith, s.within, s.all_is, next_length k))
 
         pub summed_more : name < room - n → Summed (n + (name + 1)) (j + 1)
         summed_more h = record { turns = omega arith; within = omega (arith, s.within); all_is = omega (arith, s.all_is, next_length k) }
 
-      pub summed_all : count ≤ j → n ≡ up_to room (from + length (listed (names_at text (take count names))))
+      pub summed_all : length names ≤ j → n ≡ up_to room (from + length (listed (names_at text names)))
       summed_all k =
-          let e : from + length (list_from text names count 0) ≡ n = omega (arith, s.all_is, ap length (list_end text names count c.some j k)) in
+          let e : from + length (list_from text names 0) ≡ n = omega (arith, s.all_is, ap length (list_end text names j k)) in
           up_to_lem room n s.within ∙ ap (up_to room) (sym e)
 
 -- ---- elements, then attributes

@@ -1,5 +1,5 @@
 -- Names put into a buffer, one at a time. Assumes nothing.
-use Rattle.std.specs.Prelude.{◌≡◌, refl, Bool, true, false, List, [], ◌∷◌, ◌++◌, ℕ, ◌+◌, ◌≤◌, ◌<◌, length, take, drop, set, get_or}
+use Rattle.std.specs.Prelude.{◌≡◌, refl, Bool, true, false, List, [], ◌∷◌, ◌++◌, ℕ, ◌+◌, ◌≤◌, ◌<◌, length, drop, set, get_or}
 use Rattle.std.proofs.Common.{sym, ap, ◌∙◌, arith, length-append}
 use Rattle.paper.specs.Dtd.Letters.{Name, is_more, begins}
 use Rattle.paper.specs.Dtd.Numbering.{listed}
@@ -11,14 +11,8 @@ use Rattle.dtd_names.specs.Lengths.{name_none, name_more}
 use Rattle.dtd_list.specs.Lists.{ended, length_ended, listed_both, list_from, list_next, list_end}
 
 -- the names fit into the buffer from a place on
-pub record Roomy (text names : List ℕ) (count : ℕ) (out : List ℕ) (to : ℕ) : Type 0 where
-  pub some : count ≤ length names
-  pub fits : to + length (listed (names_at text (take count names))) ≤ length out
-
-pub record BothRoomy (text elements : List ℕ) (count : ℕ) (attributes : List ℕ) (defined : ℕ) (out : List ℕ) : Type 0 where
-  pub some : count ≤ length elements
-  pub some_attributes : defined ≤ length attributes
-  pub fits : length (listed (names_at text (take count elements) ++ names_at text (take defined attributes))) ≤ length out
+abbrev pub Roomy : (text names out : List ℕ) (to : ℕ) → Type 0
+Roomy text names out to = to + length (listed (names_at text names)) ≤ length out
 
 -- ---- a name
 
@@ -51,47 +45,47 @@ module _ (text : List ℕ) (at : ℕ) (s : List ℕ) (to : ℕ) where
 
 -- ---- names in a row
 
-module _ (text names : List ℕ) (count : ℕ) (s : List ℕ) (to : ℕ) where
+module _ (text names s : List ℕ) (to : ℕ) where
   abbrev pub Listing : (j k : ℕ) (t : List ℕ) → Type 0
-  Listing j k t = Putting s to (list_from text names count 0) k t (list_from text names count j)
+  Listing j k t = Putting s to (list_from text names 0) k t (list_from text names j)
 
-  module _ (r : Roomy text names count s to) where
+  module _ (r : Roomy text names s to) where
     pub listing_none : Listing 0 to s
-    listing_none = putting_none s to (list_from text names count 0) r.fits
+    listing_none = putting_none s to (list_from text names 0) r
 
     module _ (j k : ℕ) (t : List ℕ) (p : Listing j k t) where
-      module _ (h : j < count) where
+      module _ (h : j < length names) where
         pub listing_room : k + length (name_at text (get_or names j 0)) < length t
         listing_room =
-            omega (arith, p.room, ap length (list_next text names count r.some j h), length-append (ended (name_at text (get_or names j 0))) (list_from text names count (j + 1)), length_ended (name_at text (get_or names j 0)))
+            omega (arith, p.room, ap length (list_next text names j h), length-append (ended (name_at text (get_or names j 0))) (list_from text names (j + 1)), length_ended (name_at text (get_or names j 0)))
 
         pub listing_more : (n : ℕ) (u : List ℕ) → Put t k (ended (name_at text (get_or names j 0))) n u → Listing (j + 1) n u
         listing_more n u q =
-            putting_more s to (list_from text names count 0) k t (list_from text names count j) p (ended (name_at text (get_or names j 0))) (list_from text names count (j + 1)) n u
-            (list_next text names count r.some j h)
+            putting_more s to (list_from text names 0) k t (list_from text names j) p (ended (name_at text (get_or names j 0))) (list_from text names (j + 1)) n u
+            (list_next text names j h)
             q
 
-      pub listing_all : count ≤ j → Put s to (listed (names_at text (take count names))) k t
-      listing_all h = putting_all s to (list_from text names count 0) k t (list_from text names count j) p (list_end text names count r.some j h)
+      pub listing_all : length names ≤ j → Put s to (listed (names_at text names)) k t
+      listing_all h = putting_all s to (list_from text names 0) k t (list_from text names j) p (list_end text names j h)
 
 -- ---- elements, then attributes
 
-module _ (text elements : List ℕ) (count : ℕ) (attributes : List ℕ) (defined : ℕ) (s : List ℕ) (b : BothRoomy text elements count attributes defined s) where
+module _ (text elements attributes s : List ℕ) (b : length (listed (names_at text elements ++ names_at text attributes)) ≤ length s) where
   abbrev first : List Name
-  first = names_at text (take count elements)
+  first = names_at text elements
 
   abbrev second : List Name
-  second = names_at text (take defined attributes)
+  second = names_at text attributes
 
   both_fit : length (listed first) + length (listed second) ≤ length s
-  both_fit = omega (arith, b.fits, ap length (listed_both first second), length-append (listed first) (listed second))
+  both_fit = omega (arith, b, ap length (listed_both first second), length-append (listed first) (listed second))
 
-  pub first_roomy : Roomy text elements count s 0
-  first_roomy = record { some = b.some; fits = omega (arith, both_fit) }
+  pub first_roomy : Roomy text elements s 0
+  first_roomy = omega (arith, both_fit)
 
   module _ (k : ℕ) (t : List ℕ) (p : Put s 0 (listed first) k t) where
-    pub second_roomy : Roomy text attributes defined t k
-    second_roomy = record { some = b.some_attributes; fits = omega (arith, both_fit, p.place, put_length p) }
+    pub second_roomy : Roomy text attributes t k
+    second_roomy = omega (arith, both_fit, p.place, put_length p)
 
     pub both_put : (r : ℕ) (u : List ℕ) → Put t k (listed second) r u → Put s 0 (listed (first ++ second)) r u
     both_put r u q = put_as (put_both p q) (sym (listed_both first second))

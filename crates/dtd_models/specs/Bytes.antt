@@ -1,50 +1,63 @@
 -- A byte, a name and a suffix at a place of a model, and what they make of the brackets that are open. Assumes nothing.
-use Rattle.std.specs.Prelude.{◌≡◌, refl, ◌≢◌, Bool, true, false, cond, ◌||◌, List, [], ◌∷◌, ℕ, suc, ◌+◌, ◌≤◌, ◌<◌, eqb, length, drop, get_or}
-use Rattle.std.proofs.Common.{sym, ◌∙◌, arith, add-one, length-drop, drop_of_length-le, drop-cons}
+use mir.Val.{bool_byte}
+use Rattle.std.specs.Prelude.{◌≡◌, refl, Bool, true, false, cond, ◌||◌, Some, List, [], ◌∷◌, ℕ, suc, ◌+◌, ◌≤◌, ◌<◌, eqb, length, drop, get_or}
+use Rattle.std.proofs.Common.{sym, ap, ◌∙◌, arith, add-one, eqb-true, length-drop, drop-cons}
 use Rattle.std.proofs.Math.Bool.{and-eq-true_iff}
 use Rattle.paper.specs.Basics.{all}
 use Rattle.paper.specs.Dtd.Letters.{Name, is_first, is_more, begins}
 use Rattle.paper.specs.Dtd.Declarations.{Suffix, once, maybe, many, several}
-use Rattle.paper.specs.Dtd.Readers.{Read, ok, stop, suffix, outside}
+use Rattle.paper.specs.Dtd.Readers.{ok, suffix, outside}
 use Rattle.paper.specs.Dtd.Reading.{mention}
 use Rattle.basic_laws.specs.Bools.{clash, neither}
 use Rattle.dtd_laws.specs.Exact.{tested_exact}
 use Rattle.dtd_laws.specs.Leaves.{name_exact, name_strict}
-use Rattle.dtd_words.specs.declared.Step.{Step}
-use Rattle.dtd_words.specs.Words.{Came}
+use Rattle.dtd_words.specs.Places.{begins_inside}
 use Rattle.dtd_model_laws.specs.Sizes.{marks}
+use Rattle.dtd_model_laws.specs.Walks.{Joint, free, joint_of}
+use Rattle.dtd_brackets.specs.declared.Separator.{Separator}
+use Rattle.dtd_brackets.specs.declared.Separator.TheVariants.{Comma, Bar}
+use Rattle.dtd_brackets.specs.Separators.{joint}
 use Rattle.dtd_brackets.specs.Stacks.{open_at, open_next, open_still, more_still, untouched}
 
--- the byte in front; 0 where there is none
-abbrev pub front : List ℕ → ℕ
-front [] = 0
-front (b ∷ s) = b
+-- ---- the byte at a place
 
 module _ (text : List ℕ) (at : ℕ) where
-  pub front_none : length text ≤ at → 0 ≡ front (drop at text)
-  front_none h = rw (drop_of_length-le text h)
+  -- that byte stands there
+  pub front_is : (c : ℕ) → begins (eqb c) (drop at text) ≡ true → (at < length text) × (drop at text ≡ c ∷ drop (suc at) text) × (c ≡ get_or text at 0)
+  front_is c p =
+      let h = begins_inside (eqb c) text at p in
+      let d = drop-cons text at 0 h in
+      let e = eqb-true c (get_or text at 0) (sym (ap (begins (eqb c)) d) ∙ p) in
+      (h, d ∙ rw (← e), e)
 
-  pub front_at : at < length text → get_or text at 0 ≡ front (drop at text)
-  front_at h = rw (drop-cons text at 0 h)
+-- ---- separators
 
-  -- a byte other than 0 stands there
-  pub front_some : (c : ℕ) → c ≡ front (drop at text) → c ≢ 0 → (at < length text) × (drop at text ≡ c ∷ drop (suc at) text) × (c ≡ get_or text at 0)
-  front_some c p n = by (drop at text) refl p
+-- the separator in front
+abbrev pub joint_at : List ℕ → Joint
+joint_at [] = free
+joint_at (b ∷ s) = joint_of b
+
+module _ (text : List ℕ) (at : ℕ) (v : Separator) (p : joint (Some v) ≡ joint_at (drop at text)) where
+  -- the byte that it is
+  pub separator_byte : (c : ℕ) × (at < length text) × (drop at text ≡ c ∷ drop (suc at) text) × (c ≡ get_or text at 0) × (joint (Some v) ≡ joint_of c)
+  separator_byte = by (drop at text) refl p
     where
-      by : (s : List ℕ) → drop at text ≡ s → c ≡ front s → (at < length text) × (drop at text ≡ c ∷ drop (suc at) text) × (c ≡ get_or text at 0)
-      by [] e p = absurd (n p)
+      none : (v : Separator) → joint (Some v) ≡ free → ⊥
+      none Comma e = cc
+      none Bar e = cc
+
+      by : (s : List ℕ) → drop at text ≡ s → joint (Some v) ≡ joint_at s
+          → (c : ℕ) × (at < length text) × (drop at text ≡ c ∷ drop (suc at) text) × (c ≡ get_or text at 0) × (joint (Some v) ≡ joint_of c)
+      by [] e p = absurd (none v p)
       by (b ∷ t) e p =
           let l : length (drop at text) ≡ suc (length t) = rw e in
           let h : at < length text = omega (arith, length-drop at text) in
           let d = drop-cons text at 0 h in
-          let g : c ≡ get_or text at 0 = cc in
-          (h, rw g d, g)
+          let g : b ≡ get_or text at 0 = cc in
+          (b, h, rw g d, g, p)
 
-  pub opens_inside : (c : ℕ) → c ≡ front (drop at text) → c ≡ 40 → at + 1 ≤ length text
-  opens_inside c p n = let h = (front_some c p (λ z. omega arith)).0 in omega arith
-
-  pub closes_inside : 41 ≡ front (drop at text) → at + 1 ≤ length text
-  closes_inside p = let h = (front_some 41 p (λ z. omega arith)).0 in omega arith
+  pub separator_inside : at + 1 ≤ length text
+  separator_inside = let (c, h, d, g, e) = separator_byte in omega arith
 
 -- ---- suffixes
 
@@ -80,42 +93,44 @@ module _ (text : List ℕ) (at : ℕ) where
   same_place : (from : ℕ) → open_at text from (at + 0) ≡ open_at text from at
   same_place from = let e : at + 0 ≡ at = omega arith in rw e
 
-  pub suffix_end : at ≤ length text → length text ≤ at → Suffixed text at 0
-  suffix_end h k =
-      let e : at + 0 ≡ at = omega arith in
-      let d = drop_of_length-le text k in
-      record { kind = once; many = refl; inside = omega arith; read = rw (e, d); still = λ from f. same_place from }
-
-  module _ (b : Bool) (h : at < length text) (q : b ≡ is_suffix (get_or text at 0)) where
-    pub suffix_none : b ≡ false → Suffixed text at 0
+  module _ (h : at ≤ length text) (b : Bool) (q : b ≡ begins is_suffix (drop at text)) where
+    suffix_none : b ≡ false → Suffixed text at 0
     suffix_none p =
         let e : at + 0 ≡ at = omega arith in
-        let d = drop-cons text at 0 h in
         record {
           kind = once;
           many = refl;
           inside = omega arith;
-          read = rw (e, d) (leaves (get_or text at 0) (drop (suc at) text) (sym q ∙ p));
+          read = rw e (by (drop at text) (sym q ∙ p));
           still = λ from f. same_place from;
         }
+      where
+        by : (s : List ℕ) → begins is_suffix s ≡ false → suffix s ≡ ok once s
+        by [] p = refl
+        by (c ∷ s) p = leaves c s p
 
-    pub suffix_one : b ≡ true → Suffixed text at 1
+    suffix_one : b ≡ true → Suffixed text at 1
     suffix_one p =
-        let d = drop-cons text at 0 h in
-        let (k, m, r) = takes (get_or text at 0) (drop (suc at) text) (sym q ∙ p) in
+        let i = begins_inside is_suffix text at (sym q ∙ p) in
+        let d = drop-cons text at 0 i in
+        let y : is_suffix (get_or text at 0) ≡ true = sym (ap (begins is_suffix) d) ∙ sym q ∙ p in
+        let (k, m, r) = takes (get_or text at 0) (drop (suc at) text) y in
         record {
           kind = k;
           many = m;
           inside = omega arith;
-          read = rw (add-one at, d) r;
-          still = λ from f. rw (add-one at) (open_next text from at f h ∙ untouched is_suffix refl refl refl refl (get_or text at 0) (sym q ∙ p) (open_at text from at));
+          read = rw (add-one at) (ap suffix d ∙ r);
+          still = λ from f. rw (add-one at) (open_next text from at f i ∙ untouched is_suffix refl refl refl refl (get_or text at 0) y (open_at text from at));
         }
 
--- ---- names
+    pub suffix_there : Suffixed text at (bool_byte b)
+    suffix_there = by b refl
+      where
+        by : (x : Bool) → b ≡ x → Suffixed text at (bool_byte x)
+        by true p = suffix_one p
+        by false p = suffix_none p
 
-pub came_inside : {A : Type 0} (text : List ℕ) (n : Step) (o : Read A) → Came text n o → n.at ≤ length text
-came_inside text n (ok a s) (p, q) = q.inside
-came_inside text n (stop k s) (p, q) = q.inside
+-- ---- names
 
 -- a name that was read: the text goes on behind it, and the brackets are as they were
 pub mentioned : (known : Name → Bool) (text : List ℕ) (from at e : ℕ) (n : Name) → from ≤ at → at ≤ length text → e ≤ length text

@@ -1,12 +1,15 @@
 -- Where the walk along a model stands, and what its steps come to. Assumes nothing.
-use Rattle.std.specs.Prelude.{◌≡◌, Bool, List, ℕ, suc, ◌-◌, ◌≤◌, ◌<◌, length, drop}
+use Rattle.std.specs.Prelude.{◌≡◌, Bool, Result, Ok, Err, List, ℕ, suc, ◌-◌, ◌≤◌, ◌<◌, length, drop}
 use Rattle.paper.specs.Expressions.{count}
 use Rattle.paper.specs.Schema.{symbols_of}
 use Rattle.paper.specs.Dtd.Letters.{Name, is_white, past}
 use Rattle.paper.specs.Dtd.Declarations.{Part}
 use Rattle.paper.specs.Dtd.Numbering.{expr_of}
-use Rattle.paper.specs.Dtd.Readers.{Read, stop, ok}
+use Rattle.paper.specs.Dtd.Readers.{Read}
+use Rattle.paper.specs.declared.Refusal.TheVariants.{DtdText}
+use Rattle.dtd_words.specs.declared.Fault.{Fault}
 use Rattle.dtd_words.specs.Places.{At}
+use Rattle.dtd_words.specs.Words.{CameTo}
 use Rattle.dtd_model_laws.specs.Turns.{groups}
 use Rattle.dtd_model_laws.specs.Walks.{due, after, counted}
 use Rattle.dtd_brackets.specs.Stacks.{open_at}
@@ -16,20 +19,23 @@ use Rattle.dtd_models.specs.declared.Modelled.{Modelled}
 use Rattle.dtd_models.specs.declared.Walk.{Walk}
 use Rattle.dtd_models.specs.declared.Walk.TheVariants.{Due, Behind, Ended}
 
--- what a model came to
-abbrev pub Model : List ℕ → Modelled → Read Part → Type 0
-Model text r (ok p s) =
-    (r.number ≡ 0) × At text r.at s × (r.symbols ≡ length (symbols_of (expr_of p (λ n. 0)))) × (r.names ≡ count (expr_of p (λ n. 0)))
-Model text r (stop k s) = (r.number ≡ k) × At text r.at s
+-- what a model came to: the place behind it, and how many symbols and names it has
+abbrev pub Model : List ℕ → Result Modelled Fault → Read Part → Type 0
+Model text r o =
+    CameTo (λ m p s. At text m.at s × (m.symbols ≡ length (symbols_of (expr_of p (λ n. 0)))) × (m.names ≡ count (expr_of p (λ n. 0)))) text r o
 
-abbrev pub fault : ℕ → Walk
-fault at = Ended (record { number = 14; at = at; symbols = 0; names = 0 })
+abbrev pub fault : ℕ → Result Walk Fault
+fault at = Err (record { refusal = DtdText; at = at })
 
 -- what is left to walk
 abbrev pub left : List ℕ → Walk → ℕ
 left text (Due p) = suc (length text - p.at)
 left text (Behind p) = suc (length text - p.at)
 left text (Ended r) = 0
+
+abbrev pub left_of : List ℕ → Result Walk Fault → ℕ
+left_of text (Ok w) = left text w
+left_of text (Err f) = 0
 
 -- a place inside brackets of the model that begins at `from`
 pub record Stands (text : List ℕ) (from : ℕ) (p : Place) : Type 0 where
@@ -55,19 +61,24 @@ module _ (known : Name → Bool) (text : List ℕ) (from : ℕ) where
   abbrev pub Held : Walk → Type 0
   Held (Due p) = DueAt p
   Held (Behind p) = BehindAt p
-  Held (Ended r) = Model text r (groups known (drop from text))
+  Held (Ended m) = Model text (Ok m) (groups known (drop from text))
+
+  -- what a step comes to
+  abbrev pub Stepped : Result Walk Fault → Type 0
+  Stepped (Ok w) = Held w
+  Stepped (Err f) = Model text (Err f) (groups known (drop from text))
 
   -- a step from the place `at`
-  pub record Onward (at : ℕ) (r : Walk) : Type 0 where
-    pub holds : Held r
-    pub less : left text r < suc (length text - at)
+  pub record Onward (at : ℕ) (r : Result Walk Fault) : Type 0 where
+    pub holds : Stepped r
+    pub less : left_of text r < suc (length text - at)
 
 -- a step from behind a part, whatever names are known
-abbrev pub Went : List ℕ → ℕ → Place → Walk → Type 0
+abbrev pub Went : List ℕ → ℕ → Place → Result Walk Fault → Type 0
 Went text from p r = (known : Name → Bool) → BehindAt known text from p → Onward known text from p.at r
 
 -- from a place that stands behind white space
-abbrev pub Goes : List ℕ → ℕ → Place → Walk → Type 0
+abbrev pub Goes : List ℕ → ℕ → Place → Result Walk Fault → Type 0
 Goes text from p r =
     (known : Name → Bool) → BehindAt known text from p → past is_white (drop p.at text) ≡ drop p.at text → Onward known text from p.at r
 
@@ -79,31 +90,5 @@ pub record Settles (text : List ℕ) (from : ℕ) (p r : Place) : Type 0 where
   pub goes : (known : Name → Bool) → BehindAt known text from p → BehindAt known text from r
 
 -- before the first byte
-abbrev pub Begun : List ℕ → ℕ → Walk → Type 0
-Begun text from r = (known : Name → Bool) → Held known text from r
-
--- ---- by where the walk stands
-
-module _ (known : Name → Bool) (text : List ℕ) (from : ℕ) (w : Walk) (h : Held known text from w) where
-  module _ (p : Place) (e : w ≡ Due p) where
-    pub due_held : DueAt known text from p
-    due_held = rw e at h
-
-    pub due_less : (r : Walk) → Onward known text from p.at r → left text r < left text w
-    due_less r o = rw e o.less
-
-  module _ (p : Place) (e : w ≡ Behind p) where
-    behind_held : BehindAt known text from p
-    behind_held = rw e at h
-
-    pub behind_stands : Stands text from p
-    behind_stands = behind_held.stands
-
-    pub behind_next : (r : Walk) → Went text from p r → Held known text from r
-    behind_next r o = (o known behind_held).holds
-
-    pub behind_less : (r : Walk) → Went text from p r → left text r < left text w
-    behind_less r o = rw e (o known behind_held).less
-
-  pub ended_held : (r : Modelled) → w ≡ Ended r → Model text r (groups known (drop from text))
-  ended_held r e = rw e at h
+abbrev pub Begun : List ℕ → ℕ → Result Walk Fault → Type 0
+Begun text from r = (known : Name → Bool) → Stepped known text from r

@@ -1,4 +1,5 @@
 -- Names by their places in the text.
 pub mod Named
+pub mod Spelled
 pub mod Lengths
 pub mod Turns

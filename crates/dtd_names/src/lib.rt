@@ -1,132 +1,110 @@
 // Item 4, "DTD files as they come": names, each told by the place in the text at which it begins. Assumes nothing.
 #![tactic(auto)]
 
-ghost use Rattle.std.specs.Prelude.{◌≡◌, ◌≤◌, length, drop, take};
-ghost use Rattle.paper.specs.Dtd.Letters.{is_first, is_more, begins, same};
+ghost use Rattle.std.specs.Prelude.{◌≡◌, ◌≤◌, option_copied, length, drop};
+ghost use Rattle.paper.specs.Dtd.Letters.{same};
 ghost use Rattle.paper.specs.Dtd.Numbering.{number_in};
 ghost use Rattle.paper.specs.Dtd.Readers.{name};
 ghost use Rattle.paper.specs.Dtd.Reading.{mention};
 ghost use Rattle.dtd_words.specs.Words.{Came};
-ghost use Rattle.dtd_names.specs.Named.{name_at, names_at, known_by};
+ghost use Rattle.dtd_names.specs.Named.{name_at, names_at, known_in};
+ghost use Rattle.dtd_names.specs.Spelled.{spelled};
 
-use dtd_words::{Step, is_first, is_more, name_end};
-use paper::DTD_TEXT;
+use dtd_words::{Fault, first_at, is_more, more_at, name_end};
+use paper::Refusal;
 
-// Whether a character of a name stands there.
-pub fn more_at(text: &[u8], at: usize) -> bool
-    ensures { result ≡ begins is_more (drop at text.now) }
+// The text from a place on; none behind its end.
+fn rest_of(text: &[u8], at: usize) -> &[u8]
+    ensures { result.now ≡ drop at text.now }
 {
-    if text.len() <= at {
-        return false;
-    }
-    is_more(text[at])
+    text.get(at..).unwrap_or(&[])
 }
 
-// Whether a name begins there.
-pub fn first_at(text: &[u8], at: usize) -> bool
-    ensures { result ≡ begins is_first (drop at text.now) }
+// The name that begins at a place; it is empty where none does.
+pub fn name_of(text: &[u8], at: usize) -> &[u8]
+    ensures { result.now ≡ name_at text.now at }
 {
-    if text.len() <= at {
-        return false;
-    }
-    is_first(text[at])
+    let rest = rest_of(text, at);
+    &rest[..rest.iter().take_while(|b| is_more(**b)).count()]
 }
 
 // How many bytes the name at a place has.
 pub fn name_length(text: &[u8], at: usize) -> usize
     ensures { result ≡ length (name_at text.now at) }
 {
-    let mut i = at;
-    while more_at(text, i) {
-        i += 1;
-    }
-    i - at
+    name_of(text, at).len()
 }
 
-// Whether the name at `b` is that at `a`, which has n bytes: from its end to its front, since many names differ at their ends alone.
-fn same_name(text: &[u8], a: usize, n: usize, b: usize) -> bool
-    requires { n ≡ length (name_at text.now a) }
-    ensures { result ≡ same (name_at text.now a) (name_at text.now b) }
+// Whether that name begins at a place: from its end to its front, since many names differ at their ends alone.
+fn is_name(text: &[u8], at: usize, name: &[u8]) -> bool
+    ensures { result ≡ spelled name.now (drop at text.now) }
 {
-    if text.len() - n < b {
-        return n == 0;
+    let rest = rest_of(text, at);
+    if rest.len() < name.len() {
+        return false;
     }
-    let mut k = n;
-    while 0 < k {
-        k -= 1;
-        if text[a + k] != text[b + k] {
-            return false;
-        }
-    }
-    !more_at(text, b + n)
+    let front = &rest[..name.len()];
+    name.iter()
+        .rev()
+        .zip(front.iter().rev())
+        .all(|(b, c)| b == c)
+        && !more_at(rest, name.len())
 }
 
 // Whether the names at two places are the same.
 pub fn same_at(text: &[u8], a: usize, b: usize) -> bool
     ensures { result ≡ same (name_at text.now a) (name_at text.now b) }
 {
-    same_name(text, a, name_length(text, a), b)
+    is_name(text, b, name_of(text, a))
 }
 
-// The number of a name among the first `count` names; `count`, if it is none of them.
-pub fn find_name(text: &[u8], names: &[usize], count: usize, at: usize) -> usize
-    requires { count ≤ length names.now }
-    ensures { result ≡ number_in (names_at text.now (take count names.now)) (name_at text.now at) }
+// The number of a name among the names; how many they are, if it is none of them.
+pub fn find_name(text: &[u8], names: &[usize], at: usize) -> usize
+    ensures { result ≡ number_in (names_at text.now names.now) (name_at text.now at) }
 {
-    let n = name_length(text, at);
-    let mut i: usize = 0;
-    while i < count {
-        if same_name(text, at, n, names[i]) {
-            return i;
-        }
-        i += 1;
-    }
-    count
+    let name = name_of(text, at);
+    names
+        .iter()
+        .position(|other| is_name(text, *other, name))
+        .unwrap_or(names.len())
 }
 
 // Whether a name may be mentioned.
-pub fn known_at(text: &[u8], strict: bool, names: &[usize], count: usize, at: usize) -> bool
-    requires { count ≤ length names.now }
-    ensures { result ≡ known_by strict (names_at text.now (take count names.now)) (name_at text.now at) }
+pub fn known_at(text: &[u8], known: Option<&[usize]>, at: usize) -> bool
+    ensures { result ≡ known_in text.now (option_copied known.entry) (name_at text.now at) }
 {
-    if !strict {
-        return true;
+    match known {
+        None => true,
+        Some(names) => find_name(text, names, at) < names.len(),
     }
-    find_name(text, names, count, at) < count
 }
 
 // A name.
-pub fn name_at(text: &[u8], at: usize) -> Step
+pub fn name_at(text: &[u8], at: usize) -> Result<usize, Fault>
     requires { at ≤ length text.now }
     ensures { Came text.now result (name (drop at text.now)) }
 {
     if first_at(text, at) {
-        return Step {
-            number: 0,
-            at: name_end(text, at),
-        };
-    }
-    Step {
-        number: DTD_TEXT,
-        at,
+        Ok(name_end(text, at))
+    } else {
+        Err(Fault {
+            refusal: Refusal::DtdText,
+            at,
+        })
     }
 }
 
 // A name in a model or of an ATTLIST.
-pub fn mention_at(text: &[u8], at: usize, strict: bool, names: &[usize], count: usize) -> Step
-    requires { (at ≤ length text.now) × (count ≤ length names.now) }
-    ensures { Came text.now result (mention (known_by strict (names_at text.now (take count names.now))) (drop at text.now)) }
+pub fn mention_at(text: &[u8], at: usize, known: Option<&[usize]>) -> Result<usize, Fault>
+    requires { at ≤ length text.now }
+    ensures { Came text.now result (mention (known_in text.now (option_copied known.entry)) (drop at text.now)) }
 {
-    if first_at(text, at) {
-        if known_at(text, strict, names, count, at) {
-            return Step {
-                number: 0,
-                at: name_end(text, at),
-            };
-        }
-    }
-    Step {
-        number: DTD_TEXT,
-        at,
+    if first_at(text, at) && known_at(text, known, at) {
+        Ok(name_end(text, at))
+    } else {
+        Err(Fault {
+            refusal: Refusal::DtdText,
+            at,
+        })
     }
 }

@@ -37,24 +37,21 @@ pub fn settle(held: Held, level: usize, depths: &[usize], symbols: &[u8], out: &
     requires { Room held depths.now symbols.now out.old }
     ensures { Settled held level depths.now symbols.now out.old out.new result }
 {
-    let mut owed = held.owed;
     let mut at = held.at;
-    while owed > 0 {
-        let top = owed - 1;
+    for top in (0..held.owed).rev() {
         if depths[top] != level {
             return Held {
                 depth: held.depth,
-                owed,
+                owed: top + 1,
                 at,
             };
         }
-        owed = top;
         at -= 1;
         out[at] = symbols[top];
     }
     Held {
         depth: held.depth,
-        owed,
+        owed: 0,
         at,
     }
 }

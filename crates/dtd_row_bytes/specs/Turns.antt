@@ -4,16 +4,19 @@ use Rattle.std.proofs.Math.Path.{sym}
 use Rattle.std.proofs.Common.{ap, ◌∙◌, add-one, length-set}
 use native.Mathlib.Omega.{arith}
 use Rattle.std.proofs.Math.Numerals.{add-two}
-use Rattle.std.specs.Int.Count.{ones, count_trailing_zeros}
+use Rattle.std.specs.Int.Count.{ones}
 use Rattle.std.proofs.lemmas.Nat.{ones-le}
 use Rattle.std.proofs.Math.ListN.{length}
 use Rattle.std.proofs.lemmas.List.{length-map}
 use Rattle.paper.specs.Basics.{concat, most_attributes}
+use Rattle.paper.specs.declared.Kind.{Kind}
+use Rattle.paper.specs.declared.Status.{Status}
+use Rattle.paper.specs.Codes.{kind_of, status_of}
 use Rattle.paper.specs.SchemaWritten.{attribute_written}
 use Rattle.paper.specs.Sets.{bit}
 use Rattle.lines.specs.Put.{Put, put_both, put_as, put_one}
 use Rattle.lines.specs.Putting.{Putting, putting_none, putting_more, putting_all}
-use Rattle.sets.specs.Lowest.{cleared, turn}
+use Rattle.sets.specs.Lowest.{Taken, taken_below, turn}
 use Rattle.dtd_rows.specs.declared.Row.{Row}
 use Rattle.dtd_row_bytes.specs.Members.{members_to, members_none, members_next, members_count}
 use Rattle.dtd_row_bytes.specs.Rows.{kind_in, status_in, attribute_in, attributes_of, row_from, row_written, no_value}
@@ -43,9 +46,9 @@ module _ (r : Row) (k : ℕ) where
     pub is_implied : x ≡ false → 1 ≡ status_in r k
     is_implied q = rw (sym p ∙ q)
 
-  pub attribute_put : (s : List ℕ) (at b c : ℕ) → at + 3 ≤ length s → b ≡ kind_in r k → c ≡ status_in r k
+  pub attribute_put : (s : List ℕ) (at b c : ℕ) → at + 3 ≤ length s → (x : Kind) → b ≡ kind_of x → kind_of x ≡ kind_in r k → (y : Status) → c ≡ status_of y → status_of y ≡ status_in r k
       → Put s at (attribute_written (attribute_in r k)) (at + 3) (set (set (set s at k) (at + 1) b) (at + 2) c)
-  attribute_put s at b c h p q = rw (p, q, no_value (bit r.required k)) (record { place = refl; within = h; bytes = rw (add-one at, add-two at) })
+  attribute_put s at b c h x b' p y c' q = rw (b' ∙ p, c' ∙ q, no_value (bit r.required k)) (record { place = refl; within = h; bytes = rw (add-one at, add-two at) })
 
 -- ---- all of them
 
@@ -60,20 +63,17 @@ module _ (r : Row) (s : List ℕ) (at : ℕ) where
   walking_none f h = record { fits = f; putting = putting_none s at (row_from r r.allowed) h; long = refl }
 
   module _ (next rest : ℕ) (t : List ℕ) (w : Walking next rest t) where
-    module _ (z : rest ≡ 0 → ⊥) where
-      from_next : row_from r rest ≡ attribute_written (attribute_in r (count_trailing_zeros 64 rest)) ++ row_from r (cleared rest)
-      from_next = ap (λ l. concat (map attribute_written (map (attribute_in r) l))) (members_next 64 rest w.fits z)
+    module _ (k v : ℕ) (z : Taken rest k v) where
+      from_next : row_from r rest ≡ attribute_written (attribute_in r k) ++ row_from r v
+      from_next = rw (z.lowest, z.others) (ap (λ l. concat (map attribute_written (map (attribute_in r) l))) (members_next 64 rest w.fits z.some))
 
-      pub walking_room : (count_trailing_zeros 64 rest < 64) × (next + 3 ≤ length t)
-      walking_room = ((turn 64 rest w.fits z).small, omega (arith, w.putting.room, ap length from_next))
+      pub walking_room : (k < 64) × (next + 3 ≤ length t)
+      walking_room = (taken_below rest k v w.fits z, omega (arith, w.putting.room, ap length from_next))
 
-      pub walking_less : cleared rest < rest
-      walking_less = (turn 64 rest w.fits z).less
-
-      pub walking_more : (n v : ℕ) (u : List ℕ) → v ≡ cleared rest → Put t next (attribute_written (attribute_in r (count_trailing_zeros 64 rest))) n u → Walking n v u
-      walking_more n v u e q =
-          let p = putting_more s at (row_from r r.allowed) next t (row_from r rest) w.putting (attribute_written (attribute_in r (count_trailing_zeros 64 rest))) (row_from r (cleared rest)) n u from_next q in
-          rw e (record { fits = (turn 64 rest w.fits z).fits; putting = p; long = p.long })
+      pub walking_more : (n : ℕ) (u : List ℕ) → Put t next (attribute_written (attribute_in r k)) n u → Walking n v u
+      walking_more n u q =
+          let p = putting_more s at (row_from r r.allowed) next t (row_from r rest) w.putting (attribute_written (attribute_in r k)) (row_from r v) n u from_next q in
+          record { fits = rw z.others (turn 64 rest w.fits z.some).fits; putting = p; long = p.long }
 
     pub walking_all : rest ≡ 0 → Put s at (row_from r r.allowed) next t
     walking_all z =

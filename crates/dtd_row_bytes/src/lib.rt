@@ -4,51 +4,54 @@
 #![tactic(auto)]
 
 ghost use Rattle.std.specs.Prelude.{◌≡◌, ◌+◌, ◌≤◌, ◌<◌, length};
+ghost use Rattle.paper.specs.Codes.{kind_of, status_of};
 ghost use Rattle.paper.specs.SchemaWritten.{attribute_written};
 ghost use Rattle.lines.specs.Put.{Put};
 ghost use Rattle.dtd_row_bytes.specs.Rows.{kind_in, status_in, attribute_in, row_from, row_written};
 
 use dtd_rows::Row;
-use sets::{has, without_lowest};
-
-const CDATA: u8 = paper::CDATA as u8;
-
-const ID: u8 = paper::ID as u8;
-
-const IDREF: u8 = paper::IDREF as u8;
-
-const IDREFS: u8 = paper::IDREFS as u8;
-
-const REQUIRED: u8 = paper::REQUIRED as u8;
-
-const IMPLIED: u8 = paper::IMPLIED as u8;
+use paper::{Kind, Status};
+use sets::{Members, has};
 
 // The kind of attribute k.
-fn kind_of(row: Row, k: u32) -> u8
+fn kind_of(row: Row, k: u32) -> Kind
     requires { k < 64 }
-    ensures { result ≡ kind_in row k }
+    ensures { kind_of result ≡ kind_in row k }
 {
     if has(row.id, k) {
-        return ID;
+        return Kind::Id;
     }
     if has(row.idref, k) {
-        return IDREF;
+        return Kind::Idref;
     }
     if has(row.idrefs, k) {
-        return IDREFS;
+        return Kind::Idrefs;
     }
-    CDATA
+    Kind::Cdata
 }
 
 // The status of attribute k.
-fn status_of(row: Row, k: u32) -> u8
+fn status_of(row: Row, k: u32) -> Status
     requires { k < 64 }
-    ensures { result ≡ status_in row k }
+    ensures { status_of result ≡ status_in row k }
 {
     if has(row.required, k) {
-        return REQUIRED;
+        return Status::Required;
     }
-    IMPLIED
+    Status::Implied
+}
+
+// Their numbers in the schema file.
+fn kind_byte(kind: Kind) -> u8
+    ensures { result ≡ kind_of kind }
+{
+    kind as u8
+}
+
+fn status_byte(status: Status) -> u8
+    ensures { result ≡ status_of status }
+{
+    status as u8
 }
 
 // Attribute k goes into the buffer from a place on; the place after it.
@@ -56,8 +59,8 @@ fn put_attribute(row: Row, k: u32, out: &mut [u8], at: usize) -> usize
     requires { (k < 64) × (at + 3 ≤ length out.old) }
     ensures { Put out.old at (attribute_written (attribute_in row k)) result out.new }
 {
-    let kind = kind_of(row, k);
-    let status = status_of(row, k);
+    let kind = kind_byte(kind_of(row, k));
+    let status = status_byte(status_of(row, k));
     out[at] = k as u8;
     out[at + 1] = kind;
     out[at + 2] = status;
@@ -70,10 +73,8 @@ fn put_attributes(row: Row, out: &mut [u8], at: usize) -> usize
     ensures { Put out.old at (row_from row row.allowed) result out.new }
 {
     let mut next = at;
-    let mut rest = row.allowed;
-    while rest != 0 {
-        next = put_attribute(row, u64::trailing_zeros(rest), out, next);
-        rest = without_lowest(rest);
+    for k in Members(row.allowed) {
+        next = put_attribute(row, k, out, next);
     }
     next
 }

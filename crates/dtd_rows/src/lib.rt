@@ -4,9 +4,10 @@
 
 ghost use Rattle.std.specs.Prelude.{◌≡◌, ◌<◌};
 ghost use Rattle.paper.specs.Basics.{most_attributes};
+ghost use Rattle.paper.specs.Codes.{kind_of, status_of};
 ghost use Rattle.dtd_rows.specs.Rows.{no_row, with_definition};
 
-use paper::{ID, IDREF, IDREFS, REQUIRED};
+use paper::{Kind, Status};
 use sets::{one, when};
 
 // The attributes that an element has, those that are required, and those of three kinds.
@@ -33,16 +34,16 @@ pub fn no_row() -> Row
 }
 
 // The row with one attribute more.
-pub fn with_definition(row: Row, number: usize, kind: u32, status: u32) -> Row
+pub fn with_definition(row: Row, number: usize, kind: Kind, status: Status) -> Row
     requires { number < most_attributes }
-    ensures { result ≡ with_definition row number kind status }
+    ensures { result ≡ with_definition row number (kind_of kind) (status_of status) }
 {
     let alone = one(number as u32);
     Row {
         allowed: row.allowed | alone,
-        required: row.required | when(status == REQUIRED, alone),
-        id: row.id | when(kind == ID, alone),
-        idref: row.idref | when(kind == IDREF, alone),
-        idrefs: row.idrefs | when(kind == IDREFS, alone),
+        required: row.required | when(status == Status::Required, alone),
+        id: row.id | when(kind == Kind::Id, alone),
+        idref: row.idref | when(kind == Kind::Idref, alone),
+        idrefs: row.idrefs | when(kind == Kind::Idrefs, alone),
     }
 }

@@ -1,12 +1,12 @@
 -- From where the declarations of a text stand to its schema file and its names. Assumes nothing.
 use Rattle.std.specs.Prelude.{◌≡◌, refl, List, [], ◌∷◌, ℕ, suc, ◌≤◌, ◌<◌, length, take, drop, get_or}
 use Rattle.std.proofs.Common.{sym, ap, ◌∙◌, arith, length-drop, drop-cons, get_or-take, length-take-le}
+use Rattle.std.proofs.lemmas.List.{length-map}
 use Rattle.paper.specs.SchemaWritten.{most_schema_file}
 use Rattle.paper.specs.Dtd.Letters.{Name}
 use Rattle.paper.specs.Dtd.Declarations.{Declaration, element, attlist, element_names, defined_for, attribute_names}
 use Rattle.dtd_laws.specs.Unique.{any}
 use Rattle.dtd_names.specs.Named.{name_at, names_at}
-use Rattle.dtd_names.specs.Turns.{names_long}
 use Rattle.dtd_elements.specs.Stored.{Stored}
 use Rattle.dtd_rows.specs.Rows.{RowOf}
 use Rattle.dtd_before.specs.Paths.{declared_to, declared_to_lem, reached}
@@ -39,7 +39,7 @@ module _ (text es cs qs ns hs ts : List ℕ) (count defined many : ℕ) (ds : Li
   declared_all : declared_to text (length text) ≡ ds
   declared_all = declared_to_lem any text (length text) ds (omega arith) h.holding.path
 
-  pub asked : (rows : List ℕ) → most_numbers ≤ length rows → Asked text es count ns defined hs many ts rows
+  pub asked : (rows : List ℕ) → most_numbers ≤ length rows → Asked text (take count es) (take defined ns) hs many ts rows
   asked rows l =
       let o = h.holding in
       let f = o.few in
@@ -47,16 +47,19 @@ module _ (text es cs qs ns hs ts : List ℕ) (count defined many : ℕ) (ds : Li
       let e = h.long.elements_long in
       let a = h.long.attributes_long in
       record {
-        ready = record { reached = reached any text (length text) ds (omega arith) o.path; fits = omega arith; few = g; alike = o.listed ∙ ap attribute_names (sym declared_all) };
-        few = f;
-        some = omega arith;
+        ready = record {
+          reached = reached any text (length text) ds (omega arith) o.path;
+          few = omega (arith, length-take-le defined ns (omega arith));
+          alike = o.listed ∙ ap attribute_names (sym declared_all);
+        };
+        few = omega (arith, length-take-le count es (omega arith));
         long = l;
         kept = rw declared_all o.table;
       }
 
   -- with the rows of the text
-  module _ (rows : List ℕ) (r : Rowed text es rows count) where
-    row : (j : ℕ) → j < count → (n : Name) → name_at text (get_or es j 0) ≡ n → RowOf (attribute_names ds) (defined_for n ds) (row_at rows j)
+  module _ (rows : List ℕ) (r : Rowed text (take count es) rows (length (take count es))) where
+    row : (j : ℕ) → j < length (take count es) → (n : Name) → name_at text (get_or (take count es) j 0) ≡ n → RowOf (attribute_names ds) (defined_for n ds) (row_at rows j)
     row j k n e = rw (declared_all, e) at (r j k)
 
     stand : (l : List Declaration) (j : ℕ) → Stored text l (drop j (take count cs)) (drop j (take count qs)) → element_names l ≡ names_at text (drop j (take count es)) → Stand text cs qs rows ds l j
@@ -82,14 +85,13 @@ module _ (text es cs qs ns hs ts : List ℕ) (count defined many : ℕ) (ds : Li
             let m : j < count = omega (arith, long_es) in
             let g1 : get_or cs j 0 ≡ p = sym (get_or-take count cs j 0 m) ∙ a1 in
             let g2 : get_or qs j 0 ≡ q = sym (get_or-take count qs j 0 m) ∙ a2 in
-            let g3 : get_or es j 0 ≡ u = sym (get_or-take count es j 0 m) ∙ a3 in
             let i : n ≡ name_at text u = cc in
             let t : element_names l ≡ names_at text us = cc in (
-              record { spelled = rw (g1, g2) x.spelled; inside = rw g2 x.inside; fits = x.fits; row = row j m n (rw g3 (sym i)) },
+              record { spelled = rw (g1, g2) x.spelled; inside = rw g2 x.inside; fits = x.fits; row = row j k3 n (rw a3 (sym i)) },
               f (rw (b1, b2) s) (t ∙ ap (names_at text) (sym b3)),
             )
 
-    pub filed : (out : List ℕ) → most_numbers ≤ length rows → length out ≡ most_schema_file → Filed text es cs qs count rows out ds
+    pub filed : (out : List ℕ) → most_numbers ≤ length rows → length out ≡ most_schema_file → Filed text (take count es) cs qs rows out ds
     filed out l o =
         let f = h.holding.few in
         let e = h.long.elements_long in
@@ -98,13 +100,12 @@ module _ (text es cs qs ns hs ts : List ℕ) (count defined many : ℕ) (ds : Li
         let a = h.long.attributes_long in
         let g = h.holding.few_attributes in
         record {
-          few = f;
-          some_elements = omega arith;
-          some_contents = omega arith;
-          some_ends = omega arith;
+          few = omega (arith, length-take-le count es (omega arith));
+          some_contents = omega (arith, length-take-le count es (omega arith));
+          some_ends = omega (arith, length-take-le count es (omega arith));
           some_rows = l;
           long = o;
           names = h.holding.names;
-          few_attributes = rw (← h.holding.listed, names_long text defined ns (omega arith)) g;
+          few_attributes = rw (← h.holding.listed, length-map (take defined ns) (name_at text) ∙ length-take-le defined ns (omega arith)) g;
           stand = stand ds 0 h.holding.stored (sym h.holding.names);
         }

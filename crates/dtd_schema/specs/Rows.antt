@@ -12,10 +12,9 @@ use Rattle.dtd_heads.specs.declared.Found.{Found}
 use Rattle.dtd_heads.specs.Heads.{row_at, stored, stored_length, stored_other, stored_same, most_numbers, Heads}
 use Rattle.dtd_heads.specs.After.{RowFound}
 
-pub record Asked (text elements : List ℕ) (count : ℕ) (attributes : List ℕ) (defined : ℕ) (heads : List ℕ) (many : ℕ) (table rows : List ℕ) : Type 0 where
-  pub ready : Ready text (length text) attributes defined
-  pub few : count ≤ most_elements
-  pub some : count ≤ length elements
+pub record Asked (text elements attributes heads : List ℕ) (many : ℕ) (table rows : List ℕ) : Type 0 where
+  pub ready : Ready text (length text) attributes
+  pub few : length elements ≤ most_elements
   pub long : most_numbers ≤ length rows
   pub kept : Heads text (declared_to text (length text)) heads many table
 
@@ -27,29 +26,24 @@ Rowed text elements rows count =
 
 -- ---- turns
 
-module _ (text elements : List ℕ) (count : ℕ) (attributes : List ℕ) (defined : ℕ) (heads : List ℕ) (many : ℕ) (table : List ℕ) (first : ℕ) where
+module _ (text elements attributes heads : List ℕ) (many : ℕ) (table : List ℕ) (first : ℕ) where
   -- first: how long the list of rows is
   pub record Filling (rows : List ℕ) (j : ℕ) : Type 0 where
     pub same : length rows ≡ first
-    pub asked : Asked text elements count attributes defined heads many table rows
-    pub within : j ≤ count
+    pub asked : Asked text elements attributes heads many table rows
     pub done : Rowed text elements rows j
 
-  pub begun : (rows : List ℕ) → length rows ≡ first → Asked text elements count attributes defined heads many table rows → Filling rows 0
-  begun rows e a = record { same = e; asked = a; within = omega arith; done = λ i h. absurd (omega arith) }
+  pub begun : (rows : List ℕ) → length rows ≡ first → Asked text elements attributes heads many table rows → Filling rows 0
+  begun rows e a = record { same = e; asked = a; done = λ i h. absurd (omega arith) }
 
   module _ (rows : List ℕ) (j : ℕ) (f : Filling rows j) where
-    pub below : j < count → (j < most_elements) × (most_numbers ≤ length rows)
+    pub below : j < length elements → (j < most_elements) × (most_numbers ≤ length rows)
     below h = let a = f.asked.few in (omega arith, f.asked.long)
 
-    pub inside : j < count → j < length elements
-    inside h = let a = f.asked.some in omega arith
-
-    pub next : (rows' : List ℕ) (x : Found) → j < count → RowFound text (length text) (get_or elements j 0) heads many x → rows' ≡ stored rows j x.row → Filling rows' (j + 1)
+    pub next : (rows' : List ℕ) (x : Found) → j < length elements → RowFound text (length text) (get_or elements j 0) heads many x → rows' ≡ stored rows j x.row → Filling rows' (j + 1)
     next rows' x h o e = rw e (record {
       same = stored_length rows j x.row ∙ f.same;
-      asked = record { ready = f.asked.ready; few = f.asked.few; some = f.asked.some; long = rw (stored_length rows j x.row) f.asked.long; kept = f.asked.kept };
-      within = omega arith;
+      asked = record { ready = f.asked.ready; few = f.asked.few; long = rw (stored_length rows j x.row) f.asked.long; kept = f.asked.kept };
       done = λ i k. by i (eqb i j) refl k;
     })
       where
@@ -61,5 +55,5 @@ module _ (text elements : List ℕ) (count : ℕ) (attributes : List ℕ) (defin
             rw d (rw (stored_same rows j x.row (omega (arith, m.0, m.1))) o.row_of)
         by i false q k = let n = eqb-false i j q in rw (stored_other rows j x.row i n) (f.done i (omega arith))
 
-    pub filled : count ≤ j → Rowed text elements rows count
+    pub filled : length elements ≤ j → Rowed text elements rows (length elements)
     filled h i k = f.done i (omega arith)

@@ -1,5 +1,5 @@
 -- The schema file of the declarations of a text, by way of two arrays. Assumes nothing.
-use Rattle.std.specs.Prelude.{◌≡◌, List, ℕ, ◌+◌, ◌≤◌, ◌<◌, length, drop}
+use Rattle.std.specs.Prelude.{◌≡◌, List, ℕ, ◌+◌, ◌≤◌, ◌<◌, length, take, drop}
 use Rattle.std.proofs.Common.{arith}
 use Rattle.std.proofs.Math.Seq.{paste}
 use Rattle.paper.specs.Dtd.Declarations.{Declaration}
@@ -24,19 +24,25 @@ pub record Ways (rows bytes : List ℕ) : Type 0 where
   pub bytes_long : length bytes ≡ most_schema_file
 
 module _ (text es cs qs ns hs ts : List ℕ) (count defined many : ℕ) (h : Holds text es cs qs ns hs ts count defined many) (rows bytes : List ℕ) (w : Ways rows bytes) where
-  pub rows_asked : Asked text es count ns defined hs many ts rows
+  pub elements_fit : count ≤ length es
+  elements_fit = omega (arith, h.held.long.elements_long, h.held.holding.few)
+
+  pub attributes_fit : defined ≤ length ns
+  attributes_fit = omega (arith, h.held.long.attributes_long, h.held.holding.few_attributes)
+
+  pub rows_asked : Asked text (take count es) (take defined ns) hs many ts rows
   rows_asked = asked text es cs qs ns hs ts count defined many h.ds h.held rows (omega (arith, w.rows_long))
 
   -- rows': the rows when they are filled
-  module _ (rows' : List ℕ) (k : length rows' ≡ length rows) (r : Rowed text es rows' count) where
-    all_filed : (ds : List Declaration) → Held text es cs qs ns hs ts count defined many ds → Filed text es cs qs count rows' bytes ds
+  module _ (rows' : List ℕ) (k : length rows' ≡ length rows) (r : Rowed text (take count es) rows' (length (take count es))) where
+    all_filed : (ds : List Declaration) → Held text es cs qs ns hs ts count defined many ds → Filed text (take count es) cs qs rows' bytes ds
     all_filed ds d = filed text es cs qs ns hs ts count defined many ds d rows' r bytes (omega (arith, k, w.rows_long)) w.bytes_long
 
-    pub files : Files text es cs qs count rows' bytes
+    pub files : Files text (take count es) cs qs rows' bytes
     files = record { ds = h.ds; filed = all_filed h.ds h.held }
 
     -- after: the bytes when they are put
-    module _ (n : ℕ) (after : List ℕ) (p : FilePut text es cs qs count rows' bytes n after) (buffer : List ℕ) where
+    module _ (n : ℕ) (after : List ℕ) (p : FilePut text (take count es) cs qs rows' bytes n after) (buffer : List ℕ) where
       put_some : Put bytes 0 (schema_file h.ds) n after
       put_some = p h.ds (all_filed h.ds h.held)
 

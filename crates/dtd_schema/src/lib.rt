@@ -2,13 +2,13 @@
 // nothing.
 #![tactic(auto)]
 
-ghost use Rattle.std.specs.Prelude.{◌≡◌};
+ghost use Rattle.std.specs.Prelude.{◌≡◌, length};
 ghost use Rattle.docfile.specs.Outcome.{answer};
 ghost use Rattle.dtd_schema.specs.Rows.{Asked, Rowed};
 ghost use Rattle.dtd_schema.specs.Filing.{Holds};
 ghost use Rattle.dtd_schema.specs.Schema.{Ways, SchemaPut};
 
-use copying::copy_bytes;
+use copying::copy;
 use docfile::Count;
 use dtd_file::put_file;
 use dtd_heads::{find_row, store_row};
@@ -18,31 +18,26 @@ use paper::{DONE, MOST_SCHEMA_FILE, ROOM};
 fn put_rows(
     text: &[u8],
     elements: &[usize],
-    count: usize,
     attributes: &[usize],
-    defined: usize,
     heads: &[usize],
     many: usize,
     table: &[u64],
     rows: &mut [u64],
 )
-    requires { Asked text.now elements.now count attributes.now defined heads.now many table.now rows.old }
-    ensures { Rowed text.now elements.now rows.new count }
+    requires { Asked text.now elements.now attributes.now heads.now many table.now rows.old }
+    ensures { Rowed text.now elements.now rows.new (length elements.now) }
 {
-    let mut j: usize = 0;
-    while j < count {
+    for j in 0..elements.len() {
         let f = find_row(
             text,
             text.len(),
             elements[j],
             attributes,
-            defined,
             heads,
             many,
             table,
         );
         store_row(rows, j, f.row);
-        j += 1;
     }
 }
 
@@ -73,14 +68,21 @@ fn put_by(
     requires ways { Ways rows.old bytes.old }
     ensures { SchemaPut text.now elements.now contents.now ends.now attributes.now heads.now table.now count defined many file.old result file.new }
 {
+    let names = &elements[..count];
     put_rows(
-        text, elements, count, attributes, defined, heads, many, table, rows,
+        text,
+        names,
+        &attributes[..defined],
+        heads,
+        many,
+        table,
+        rows,
     );
-    let n = put_file(text, elements, contents, ends, count, rows, bytes);
+    let n = put_file(text, names, contents, ends, rows, bytes);
     if file.len() < n {
         return refusal(ROOM);
     }
-    copy_bytes(file, 0, bytes, 0, n);
+    copy(file, 0, bytes, 0, n);
     let done = n as u32;
     Count {
         number: DONE,

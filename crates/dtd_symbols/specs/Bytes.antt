@@ -1,31 +1,16 @@
 -- One byte of a model: the symbol it stands for, and whether a name goes on before it. Assumes nothing.
-use Rattle.std.specs.Prelude.{◌≡◌, ◌≢◌, Bool, false, List, ℕ, suc, ◌+◌, ◌-◌, ◌≤◌, ◌<◌, length, drop, get_or}
+use Rattle.std.specs.Prelude.{◌≡◌, ◌≢◌, Bool, false, Option, None, Some, List, ℕ, suc, ◌+◌, ◌-◌, ◌≤◌, ◌<◌, length, drop, get_or}
 use Rattle.std.proofs.Common.{sym, ap, ◌∙◌, arith, ne_eqb, length-drop, get_or-drop}
 use Rattle.paper.specs.Dtd.Letters.{is_more}
 use Rattle.dtd_symbol_laws.specs.Machine.{symbol_for, after, after_last}
 
-module _ (b : ℕ) where
-  pub optional : b ≡ 63 → 2 ≡ symbol_for b
-  optional e = rw e
+-- the symbol that a byte stands for, or that it stands for none
+abbrev pub Symbol : ℕ → Option ℕ → Type 0
+Symbol b None = symbol_for b ≡ 5
+Symbol b (Some g) = (g ≡ symbol_for b) × (g ≢ 5)
 
-  module _ (h : b ≢ 63) where
-    pub zero_or_more : b ≡ 42 → 3 ≡ symbol_for b
-    zero_or_more e = rw e
-
-    module _ (i : b ≢ 42) where
-      pub one_or_more : b ≡ 43 → 4 ≡ symbol_for b
-      one_or_more e = rw e
-
-      module _ (j : b ≢ 43) where
-        pub in_sequence : b ≡ 44 → 0 ≡ symbol_for b
-        in_sequence e = rw e
-
-        module _ (k : b ≢ 44) where
-          pub in_choice : b ≡ 124 → 1 ≡ symbol_for b
-          in_choice e = rw e
-
-          pub no_symbol : b ≢ 124 → 5 ≡ symbol_for b
-          no_symbol l = rw (ne_eqb b 63 h, ne_eqb b 42 i, ne_eqb b 43 j, ne_eqb b 44 k, ne_eqb b 124 l)
+pub no_symbol : (b : ℕ) → b ≢ 63 → b ≢ 42 → b ≢ 43 → b ≢ 44 → b ≢ 124 → symbol_for b ≡ 5
+no_symbol b h i j k l = rw (ne_eqb b 63 h, ne_eqb b 42 i, ne_eqb b 43 j, ne_eqb b 44 k, ne_eqb b 124 l)
 
 module _ (text : List ℕ) (from i : ℕ) where
   pub none_before : i ≤ from → false ≡ after (i - from) (drop from text) false

@@ -5,7 +5,8 @@
 #![tactic(auto)]
 
 ghost use Rattle.std.specs.Prelude.{◌≡◌, false, ◌-◌, ◌<◌, length, drop};
-ghost use Rattle.dtd_symbol_laws.specs.Machine.{symbol_for, after};
+ghost use Rattle.dtd_symbol_laws.specs.Machine.{after};
+ghost use Rattle.dtd_symbols.specs.Bytes.{Symbol};
 ghost use Rattle.dtd_symbols.specs.Turns.{Ready, Turned};
 ghost use Rattle.dtd_symbols.specs.Written.{Spelled, Written};
 
@@ -24,28 +25,18 @@ const ZERO_OR_MORE: u8 = paper::ZERO_OR_MORE as u8;
 
 const ONE_OR_MORE: u8 = paper::ONE_OR_MORE as u8;
 
-const NAMED: u8 = paper::NAMED as u8;
-
-// The symbol of a suffix or a separator; NAMED for any other byte.
-fn symbol_for(b: u8) -> u8
-    ensures { result ≡ symbol_for b }
+// The symbol of a suffix or a separator.
+fn symbol_for(b: u8) -> Option<u8>
+    ensures { Symbol b result }
 {
-    if b == b'?' {
-        return OPTIONAL;
+    match b {
+        b'?' => Some(OPTIONAL),
+        b'*' => Some(ZERO_OR_MORE),
+        b'+' => Some(ONE_OR_MORE),
+        b',' => Some(SEQUENCE),
+        b'|' => Some(CHOICE),
+        _ => None,
     }
-    if b == b'*' {
-        return ZERO_OR_MORE;
-    }
-    if b == b'+' {
-        return ONE_OR_MORE;
-    }
-    if b == b',' {
-        return SEQUENCE;
-    }
-    if b == b'|' {
-        return CHOICE;
-    }
-    NAMED
 }
 
 // Whether the byte before i belongs to a name.
@@ -65,21 +56,20 @@ fn turn(
     from: usize,
     i: usize,
     names: &[usize],
-    count: usize,
     held: Held,
     depths: &mut [usize],
     symbols: &mut [u8],
     out: &mut [u8],
 ) -> Held
-    requires { Ready text.now names.now from i count held depths.old symbols.old out.old }
-    ensures { Turned text.now names.now from i count held depths.old symbols.old out.old depths.new symbols.new out.new result }
+    requires { Ready text.now names.now from i held depths.old symbols.old out.old }
+    ensures { Turned text.now names.now from i held depths.old symbols.old out.old depths.new symbols.new out.new result }
 {
     let b = text[i];
     if is_more(b) {
         if more_before(text, from, i) {
             return held;
         }
-        let number = find_name(text, names, count, i);
+        let number = find_name(text, names, i);
         return write_name(held, number, depths, symbols, out);
     }
     if b == b'(' {
@@ -97,24 +87,16 @@ fn turn(
             at: held.at,
         };
     }
-    let symbol = symbol_for(b);
-    if symbol == NAMED {
-        return held;
+    match symbol_for(b) {
+        None => held,
+        Some(symbol) => owe(held, symbol, depths, symbols),
     }
-    owe(held, symbol, depths, symbols)
 }
 
 // The symbols of the model that stands from `from` to before `to`, at the end of `out`: the place in `out` at which they begin.
-pub fn write_symbols(
-    text: &[u8],
-    from: usize,
-    to: usize,
-    names: &[usize],
-    count: usize,
-    out: &mut [u8],
-) -> usize
-    requires { Spelled text.now names.now from to count out.old }
-    ensures { Written text.now names.now from to count out.old out.new result }
+pub fn write_symbols(text: &[u8], from: usize, to: usize, names: &[usize], out: &mut [u8]) -> usize
+    requires { Spelled text.now names.now from to out.old }
+    ensures { Written text.now names.now from to out.old out.new result }
 {
     let mut depths: [usize; MOST_SYMBOLS] = [0; MOST_SYMBOLS];
     let mut symbols: [u8; MOST_SYMBOLS] = [0; MOST_SYMBOLS];
@@ -123,20 +105,8 @@ pub fn write_symbols(
         owed: 0,
         at: MOST_SYMBOLS,
     };
-    let mut i = to;
-    while i > from {
-        i -= 1;
-        held = turn(
-            text,
-            from,
-            i,
-            names,
-            count,
-            held,
-            &mut depths,
-            &mut symbols,
-            out,
-        );
+    for i in (from..to).rev() {
+        held = turn(text, from, i, names, held, &mut depths, &mut symbols, out);
     }
     held.at
 }

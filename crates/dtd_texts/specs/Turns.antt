@@ -1,6 +1,7 @@
 -- The loop over the declarations of a text: what holds at a place, after a turn, and at the end. Assumes nothing.
-use Rattle.std.specs.Prelude.{◌≡◌, refl, ◌≢◌, Bool, true, false, ◌&&◌, List, [], ◌∷◌, ◌++◌, ℕ, ◌+◌, ◌-◌, ◌≤◌, ◌<◌, length, take, drop, set}
-use Rattle.std.proofs.Common.{sym, ap, ◌∙◌, subst, inl, inr, append-nil, arith, add-one, ltb-true, length-set, length-drop, drop_of_length-le, take-suc-set}
+use Rattle.std.specs.Prelude.{◌≡◌, refl, Bool, true, false, ◌&&◌, None, Some, Result, Ok, Err, List, [], ◌∷◌, ◌++◌, ℕ, ◌+◌, ◌-◌, ◌≤◌, ◌<◌, length, take, drop, set}
+use Rattle.std.proofs.Common.{sym, ap, ◌∙◌, subst, inl, inr, append-nil, arith, add-one, ltb-true, length-set, length-drop, drop_of_length-le, length-take-le, take-suc-set}
+use Rattle.std.proofs.lemmas.List.{length-map}
 use Rattle.std.proofs.Math.Bool.{and-eq-true_iff}
 use Rattle.paper.specs.Basics.{most_elements, most_attributes, null}
 use Rattle.paper.specs.Dtd.Letters.{Name}
@@ -10,16 +11,16 @@ use Rattle.paper.specs.Dtd.Readers.{Read, stop, ok, onward}
 use Rattle.paper.specs.Dtd.Reading.{turn, reading, new_element, room_for_element}
 use Rattle.dtd_laws.specs.Kept.{elements_append}
 use Rattle.dtd_laws.specs.Texts.{Piece, turn_exact}
-use Rattle.dtd_laws.specs.Refusals.{turn_stops}
+use Rattle.dtd_words.specs.declared.Fault.{Fault}
 use Rattle.dtd_words.specs.Places.{At}
-use Rattle.dtd_names.specs.Named.{names_at}
-use Rattle.dtd_names.specs.Turns.{names_long}
-use Rattle.dtd_elements.specs.Steps.{Gave, Went, went}
+use Rattle.dtd_words.specs.Words.{CameTo, faulty}
+use Rattle.dtd_names.specs.Named.{name_at, names_at}
+use Rattle.dtd_elements.specs.declared.Element.{Element}
 use Rattle.dtd_elements.specs.Stored.{Stored, stored_append}
 use Rattle.dtd_before.specs.Paths.{Path, here, one_turn_more, turn_less, declared_to, declared_to_lem, reached}
 use Rattle.dtd_heads.specs.Heads.{most_numbers, Heads, heads_begun}
 use Rattle.dtd_turns.specs.declared.Turn.{Turn}
-use Rattle.dtd_turns.specs.Standing.{Standing, Turned}
+use Rattle.dtd_turns.specs.Standing.{Standing, named_by, contents_by, ends_by, Turned, TurnIs, TurnCame}
 use Rattle.dtd_texts.specs.declared.Reading.{Reading}
 use Rattle.dtd_texts.specs.Whole.{whole, whole_turn, reading_whole}
 
@@ -43,14 +44,12 @@ pub record Holding (known : Name → Bool) (text : List ℕ) (ds : List Declarat
   pub listed : names_at text (take defined attributes) ≡ attribute_names ds
   pub table : Heads text ds heads many rows
 
--- a text that is refused
-abbrev pub refused_at : (number at : ℕ) → Reading
-refused_at k p = record { number = k; at = p; elements = 0; attributes = 0; many = 0 }
-
 -- what the reading of a text came to
-abbrev pub Told : (known : Name → Bool) → List ℕ → Reading → (elements contents ends attributes heads rows : List ℕ) → Read (List Declaration) → Type 0
-Told known text r es cs qs ns hs ws (ok ds s) = (r.number ≡ 0) × At text r.at s × Holding known text ds r.at es cs qs ns hs ws r.elements r.attributes r.many
-Told known text r es cs qs ns hs ws (stop k s) = (r.number ≡ k) × At text r.at s
+abbrev pub TextIs : (known : Name → Bool) (text elements contents ends attributes heads rows : List ℕ) → Reading → List Declaration → List ℕ → Type 0
+TextIs known text es cs qs ns hs ws v ds s = At text v.at s × Holding known text ds v.at es cs qs ns hs ws v.elements v.attributes v.many
+
+abbrev pub Told : (known : Name → Bool) → List ℕ → Result Reading Fault → (elements contents ends attributes heads rows : List ℕ) → Read (List Declaration) → Type 0
+Told known text r es cs qs ns hs ws o = CameTo (TextIs known text es cs qs ns hs ws) text r o
 
 module _ (known : Name → Bool) (text : List ℕ) where
   -- at a place of the text
@@ -73,7 +72,10 @@ module _ (known : Name → Bool) (text : List ℕ) where
       }
 
   module _ (es cs qs ns hs ws : List ℕ) (at count defined many : ℕ) (g : Going es cs qs ns hs ws at count defined many) where
-    pub standing : at < length text → Standing text at es count ns defined hs many ws
+    pub count_fits : count ≤ length es
+    count_fits = omega (arith, g.long.elements_long, g.holds.few)
+
+    pub standing : at < length text → Standing text at (take count es) ns defined hs many ws
     standing h =
         let l = g.long in
         let o = g.holds in
@@ -83,22 +85,24 @@ module _ (known : Name → Bool) (text : List ℕ) where
         let i = o.few_attributes in
         record {
           below = h;
-          ready = record { reached = reached known text at (declared_to text at) g.inside o.path; fits = omega arith; few = i; alike = o.listed };
-          some = omega arith;
-          few = f;
+          ready = record {
+            reached = reached known text at (declared_to text at) g.inside o.path;
+            few = omega (arith, length-take-le defined ns (omega arith));
+            alike = o.listed;
+          };
+          few_attributes = i;
+          few = omega (arith, length-take-le count es (omega arith));
           names = o.names;
           room = omega arith;
           table = o.table;
         }
 
-    pub ended : length text ≤ at → Told known text (record { number = 0; at = at; elements = count; attributes = defined; many = many }) es cs qs ns hs ws (reading known text)
+    pub ended : length text ≤ at → Told known text (Ok (record { at = at; elements = count; attributes = defined; many = many })) es cs qs ns hs ws (reading known text)
     ended h =
         let e : drop at text ≡ [] = drop_of_length-le text h in
-        rw g.same (rw e (refl, record { inside = g.inside; rest = e }, g.holds))
+        rw g.same (rw e (record { inside = g.inside; rest = e }, g.holds))
 
-    -- t: what a turn came to
-    module _ (h : at < length text) (ns' hs' ws' : List ℕ) (t : Turn)
-        (x : Gave (Turned text (declared_to text at) ns' hs' ws' t) text t.number t.at (turn known (declared_to text at) (drop at text))) where
+    module _ (h : at < length text) (ns' hs' ws' : List ℕ) where
       some_left : null (drop at text) ≡ false
       some_left = by (drop at text) (rw (length-drop at text) (omega arith))
         where
@@ -109,19 +113,25 @@ module _ (known : Name → Bool) (text : List ℕ) where
       turned : reading known text ≡ onward (turn known (declared_to text at) (drop at text)) (λ new. whole known (declared_to text at ++ new))
       turned = g.same ∙ whole_turn known (declared_to text at) (drop at text) some_left
 
-      pub refused : (r : Reading) → t.number ≢ 0 → r ≡ refused_at t.number t.at → Told known text r es cs qs ns' hs' ws' (reading known text)
-      refused r n f = rw (f, turned) (by (turn known (declared_to text at) (drop at text)) x)
-        where
-          by : (o : Read (List Declaration)) → Gave (Turned text (declared_to text at) ns' hs' ws' t) text t.number t.at o
-              → Told known text (refused_at t.number t.at) es cs qs ns' hs' ws' (onward o (λ new. whole known (declared_to text at ++ new)))
-          by (stop k s) y = y
-          by (ok new s) (z, y, w) = absurd (n z)
+      pub refused : (f : Fault) → TurnCame text (declared_to text at) ns' hs' ws' (Err f) (turn known (declared_to text at) (drop at text))
+          → Told known text (Err f) es cs qs ns' hs' ws' (reading known text)
+      refused f x =
+          rw turned (faulty (TurnIs text (declared_to text at) ns' hs' ws') (TextIs known text es cs qs ns' hs' ws') text (λ new. whole known (declared_to text at ++ new)) f (turn known (declared_to text at) (drop at text)) x)
 
-      module _ (n : t.number ≡ 0) where
-        read : Went text (Turned text (declared_to text at) ns' hs' ws' t) t.number t.at (turn known (declared_to text at)) (drop at text)
-        read =
-            went text (Turned text (declared_to text at) ns' hs' ws' t) t.number t.at (turn known (declared_to text at)) (drop at text)
-            (turn_stops (λ k. k ≢ 0) (λ z. absurd (omega arith)) known (λ z. absurd (omega arith)) (declared_to text at)) x n
+      -- t: what a turn came to
+      module _ (t : Turn) (x : TurnCame text (declared_to text at) ns' hs' ws' (Ok t) (turn known (declared_to text at) (drop at text))) where
+        pub record Took : Type 0 where
+          pub value : List Declaration
+          pub read : turn known (declared_to text at) (drop at text) ≡ ok value (drop t.at text)
+          pub inside : t.at ≤ length text
+          pub holds : Turned text (declared_to text at) ns' hs' ws' t value
+
+        read : Took
+        read = by (turn known (declared_to text at) (drop at text)) refl x
+          where
+            by : (o : Read (List Declaration)) → turn known (declared_to text at) (drop at text) ≡ o → TurnCame text (declared_to text at) ns' hs' ws' (Ok t) o → Took
+            by (ok new s) e (a, w) = record { value = new; read = e ∙ ap (λ z. ok new z) (sym a.rest); inside = a.inside; holds = w }
+            by (stop k s) e w = absurd w
 
         abbrev new : List Declaration
         new = read.value
@@ -142,11 +152,9 @@ module _ (known : Name → Bool) (text : List ℕ) where
 
         -- the lists after the turn, where it declared no element
         module _ (k : length ns' ≡ length ns) (k2 : length hs' ≡ length hs) (k3 : length ws' ≡ length ws) where
-          pub none_more : t.elements ≢ 1 → Going es cs qs ns' hs' ws' t.at count t.attributes t.many
-          none_more z =
+          pub none_more : t.element ≡ None → Going es cs qs ns' hs' ws' t.at count t.attributes t.many
+          none_more v =
               let y = read.holds in
-              let u = y.one in
-              let v : t.elements ≡ 0 = omega arith in
               let l = g.long in
               let o = g.holds in
               record {
@@ -164,15 +172,15 @@ module _ (known : Name → Bool) (text : List ℕ) where
                   path = path;
                   few = o.few;
                   names = o.names ∙ sym (elements_append (declared_to text at) read.value ∙ ap (λ z. element_names (declared_to text at) ++ z) (no_name v) ∙ append-nil (element_names (declared_to text at)));
-                  stored = nothing_stored (take count cs) (take count qs) o.stored (subst (λ z. Stored text read.value (take z (t.content ∷ [])) (take z (t.end ∷ []))) v y.stored);
+                  stored = nothing_stored (take count cs) (take count qs) o.stored (subst (λ z. Stored text read.value (contents_by z) (ends_by z)) v y.stored);
                   few_attributes = y.few;
                   listed = y.listed;
                   table = y.table;
                 });
               }
             where
-              no_name : t.elements ≡ 0 → element_names read.value ≡ []
-              no_name v = read.holds.names ∙ ap (λ z. names_at text (take z (t.name ∷ []))) v
+              no_name : t.element ≡ None → element_names read.value ≡ []
+              no_name v = read.holds.names ∙ ap (λ z. names_at text (named_by z)) v
 
               nothing_stored : (ps rs : List ℕ) → Stored text (declared_to text at) ps rs → Stored text read.value [] [] → Stored text (declared_to text at ++ read.value) ps rs
               nothing_stored ps rs a b =
@@ -180,9 +188,9 @@ module _ (known : Name → Bool) (text : List ℕ) where
                   (subst (λ z. Stored text (declared_to text at ++ read.value) (ps ++ []) z) (append-nil rs) (stored_append text (declared_to text at) read.value ps rs [] [] a b))
 
           -- the lists after the turn, where it declared one
-          module _ (z : t.elements ≡ 1) where
-            one_name : element_names read.value ≡ names_at text (t.name ∷ [])
-            one_name = read.holds.names ∙ ap (λ z. names_at text (take z (t.name ∷ []))) z
+          module _ (one : Element) (z : t.element ≡ Some one) where
+            one_name : element_names read.value ≡ names_at text (one.name ∷ [])
+            one_name = read.holds.names ∙ ap (λ z. names_at text (named_by z)) z
 
             -- an element is declared only if there is room for it
             pub room : count < most_elements
@@ -203,7 +211,7 @@ module _ (known : Name → Bool) (text : List ℕ) where
                 by (inr (inr (d, e, p, k))) =
                     let l = has_room d e k in
                     let o = g.holds in
-                    let i = names_long text count es (omega (arith, g.long.elements_long, o.few)) in
+                    let i = length-map (take count es) (name_at text) ∙ length-take-le count es (omega (arith, g.long.elements_long, o.few)) in
                     let j = ap length o.names in
                     omega arith
 
@@ -216,7 +224,7 @@ module _ (known : Name → Bool) (text : List ℕ) where
             pub in_ends : count < length qs
             in_ends = omega (arith, room, g.long.ends_long)
 
-            pub one_more : Going (set es count t.name) (set cs count t.content) (set qs count t.end) ns' hs' ws' t.at (count + 1) t.attributes t.many
+            pub one_more : Going (set es count one.name) (set cs count one.content) (set qs count one.end) ns' hs' ws' t.at (count + 1) t.attributes t.many
             one_more =
                 let y = read.holds in
                 let l = g.long in
@@ -225,9 +233,9 @@ module _ (known : Name → Bool) (text : List ℕ) where
                 record {
                   inside = read.inside;
                   long = record {
-                    elements_long = length-set es count t.name ∙ l.elements_long;
-                    contents_long = length-set cs count t.content ∙ l.contents_long;
-                    ends_long = length-set qs count t.end ∙ l.ends_long;
+                    elements_long = length-set es count one.name ∙ l.elements_long;
+                    contents_long = length-set cs count one.content ∙ l.contents_long;
+                    ends_long = length-set qs count one.end ∙ l.ends_long;
                     attributes_long = k ∙ l.attributes_long;
                     heads_long = k2 ∙ l.heads_long;
                     rows_long = k3 ∙ l.rows_long;
@@ -236,12 +244,12 @@ module _ (known : Name → Bool) (text : List ℕ) where
                   holds = rw declared (record {
                     path = path;
                     few = omega arith;
-                    names = ap (names_at text) (snoc es l.elements_long t.name) ∙ names_snoc (take count es) t.name ∙ ap (λ v. v ++ names_at text (t.name ∷ [])) o.names ∙ sym (elements_append (declared_to text at) read.value ∙ ap (λ v. element_names (declared_to text at) ++ v) one_name);
+                    names = ap (names_at text) (snoc es l.elements_long one.name) ∙ names_snoc (take count es) one.name ∙ ap (λ v. v ++ names_at text (one.name ∷ [])) o.names ∙ sym (elements_append (declared_to text at) read.value ∙ ap (λ v. element_names (declared_to text at) ++ v) one_name);
                     stored =
-                        subst (λ v. Stored text (declared_to text at ++ read.value) v (take (count + 1) (set qs count t.end))) (sym (snoc cs l.contents_long t.content))
-                        (subst (λ v. Stored text (declared_to text at ++ read.value) (take count cs ++ t.content ∷ []) v) (sym (snoc qs l.ends_long t.end))
-                        (stored_append text (declared_to text at) read.value (take count cs) (take count qs) (t.content ∷ []) (t.end ∷ []) o.stored
-                        (subst (λ z. Stored text read.value (take z (t.content ∷ [])) (take z (t.end ∷ []))) z y.stored)));
+                        subst (λ v. Stored text (declared_to text at ++ read.value) v (take (count + 1) (set qs count one.end))) (sym (snoc cs l.contents_long one.content))
+                        (subst (λ v. Stored text (declared_to text at ++ read.value) (take count cs ++ one.content ∷ []) v) (sym (snoc qs l.ends_long one.end))
+                        (stored_append text (declared_to text at) read.value (take count cs) (take count qs) (one.content ∷ []) (one.end ∷ []) o.stored
+                        (subst (λ z. Stored text read.value (contents_by z) (ends_by z)) z y.stored)));
                     few_attributes = y.few;
                     listed = y.listed;
                     table = y.table;

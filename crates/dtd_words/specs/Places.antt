@@ -1,6 +1,7 @@
 -- Places of a text: what a reader leaves, told by where it stands; and turns of the loops that go along a text. Assumes nothing.
-use Rattle.std.specs.Prelude.{◌≡◌, refl, Bool, true, false, List, [], ◌∷◌, ℕ, suc, ◌+◌, ◌≤◌, ◌<◌, length, drop, get_or}
-use Rattle.std.proofs.Common.{sym, ap, ◌∙◌, true≢false, arith, add-one, length-drop, drop_of_length-le, drop-cons}
+use Rattle.std.specs.Prelude.{◌≡◌, refl, Bool, true, false, cond, List, [], ◌∷◌, ℕ, suc, ◌+◌, ◌≤◌, ◌<◌, length, drop, get_or}
+use Rattle.std.specs.List.{prefix_len}
+use Rattle.std.proofs.Common.{sym, ◌∙◌, true≢false, arith, one-add, length-drop, drop_of_length-le, drop-cons, drop-drop}
 use Rattle.paper.specs.Dtd.Letters.{begins, past}
 
 -- from the place `at` on, the text is s
@@ -26,40 +27,29 @@ module _ (P : ℕ → Bool) (text : List ℕ) (at : ℕ) where
           let l : length (drop at text) ≡ suc (length t) = rw e in
           omega (arith, length-drop at text)
 
--- ---- along a run of bytes of one sort
+-- ---- past a run of bytes of one sort
 
 module _ (P : ℕ → Bool) where
-  past_next : (b : ℕ) (s : List ℕ) → P b ≡ true → past P (b ∷ s) ≡ past P s
-  past_next b s p = rw p
+  run_short : (s : List ℕ) → prefix_len P s ≤ length s
+  run_short [] = omega arith
+  run_short (b ∷ s) = by (P b) (run_short s)
+    where
+      by : (x : Bool) → prefix_len P s ≤ length s → cond x (1 + prefix_len P s) 0 ≤ suc (length s)
+      by true h = omega arith
+      by false h = omega arith
 
-  past_here : (b : ℕ) (s : List ℕ) → P b ≡ false → past P (b ∷ s) ≡ b ∷ s
-  past_here b s p = rw p
+  run_left : (s : List ℕ) → drop (prefix_len P s) s ≡ past P s
+  run_left [] = refl
+  run_left (b ∷ s) = by (P b) (run_left s)
+    where
+      by : (x : Bool) → drop (prefix_len P s) s ≡ past P s → drop (cond x (1 + prefix_len P s) 0) (b ∷ s) ≡ cond x (past P s) (b ∷ s)
+      by true e = rw (one-add (prefix_len P s)) e
+      by false e = refl
 
-  -- the run from `at` on goes on at i
-  pub record Along (text : List ℕ) (at i : ℕ) : Type 0 where
-    pub inside : i ≤ length text
-    pub same : past P (drop at text) ≡ past P (drop i text)
-
-  -- b: what the test of the byte at i came to
-  module _ (text : List ℕ) (at i : ℕ) (b : Bool) where
-    pub more : Along text at i → i < length text → b ≡ P (get_or text i 0) → b ≡ true → Along text at (i + 1)
-    more a h q p =
-        let e = drop-cons text i 0 h in
-        record {
-          inside = omega arith;
-          same = a.same ∙ ap (past P) e ∙ past_next (get_or text i 0) (drop (suc i) text) (sym q ∙ p) ∙ ap (λ n. past P (drop n text)) (sym (add-one i));
-        }
-
-    pub ends : Along text at i → i < length text → b ≡ P (get_or text i 0) → b ≡ false → At text i (past P (drop at text))
-    ends a h q p =
-        let e = drop-cons text i 0 h in
-        let f = past_here (get_or text i 0) (drop (suc i) text) (sym q ∙ p) in
-        record { inside = a.inside; rest = e ∙ sym f ∙ ap (past P) (sym e) ∙ sym a.same }
-
-  pub begun : (text : List ℕ) (at : ℕ) → at ≤ length text → Along text at at
-  begun text at h = record { inside = h; same = refl }
-
-  pub none : (text : List ℕ) (at i : ℕ) → Along text at i → length text ≤ i → At text i (past P (drop at text))
-  none text at i a h =
-      let e = drop_of_length-le text h in
-      record { inside = a.inside; rest = e ∙ ap (past P) (sym e) ∙ sym a.same }
+  -- n: how long the run is
+  pub behind_run : (text : List ℕ) (at n : ℕ) → at ≤ length text → n ≡ prefix_len P (drop at text) → At text (at + n) (past P (drop at text))
+  behind_run text at n h e =
+      record {
+        inside = omega (arith, run_short (drop at text), length-drop at text);
+        rest = sym (drop-drop n at text) ∙ rw e (run_left (drop at text));
+      }

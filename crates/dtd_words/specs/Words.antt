@@ -1,59 +1,105 @@
--- A word at a place: how far the text goes along with it. Assumes nothing.
-use Rattle.std.specs.Prelude.{◌≡◌, refl, ◌≢◌, List, [], ◌∷◌, ℕ, suc, ◌+◌, ◌≤◌, ◌<◌, length, drop, get_or}
-use Rattle.std.proofs.Common.{sym, ◌∙◌, arith, add-one, eq-eqb, ne_eqb, drop_of_length-le, drop-cons}
-use Rattle.paper.specs.Dtd.Readers.{Read, stop, ok, literal, outside}
-use Rattle.dtd_words.specs.declared.Step.{Step}
+-- A word at a place: how far the text goes along with it; and what a reader came to. Assumes nothing.
+use Rattle.std.specs.Prelude.{◌≡◌, refl, ◌≢◌, Bool, true, false, cond, Result, Ok, Err, List, [], ◌∷◌, ℕ, suc, ◌+◌, ◌≤◌, eqb, zip, length, drop}
+use Rattle.std.specs.List.{prefix_len}
+use Rattle.std.proofs.Common.{sym, subst, ◌∙◌, arith, one-add, eqb-true, eq-eqb, ne_eqb, length-drop, drop-drop}
+use Rattle.std.proofs.lemmas.Bool.{eqb-false}
+use Rattle.paper.specs.declared.Refusal.TheVariants.{DtdText}
+use Rattle.paper.specs.Codes.{number_of}
+use Rattle.paper.specs.Dtd.Readers.{Read, stop, ok, Reader, onward, literal, outside}
+use Rattle.dtd_words.specs.declared.Fault.{Fault}
 use Rattle.dtd_words.specs.Places.{At}
 
--- what a reader of no value came to: 0 and the place behind it, or the number and the place of what is at fault
-abbrev pub Came : {A : Type 0} → List ℕ → Step → Read A → Type 0
-Came text r (ok u s) = (r.number ≡ 0) × At text r.at s
-Came text r (stop k s) = (r.number ≡ k) × At text r.at s
+-- What a reader came to: a value for what was read, as P says, or the refusal and the place of what is at fault.
+abbrev pub CameTo : {A V : Type 0} → (V → A → List ℕ → Type 0) → List ℕ → Result V Fault → Read A → Type 0
+CameTo P text (Ok v) (ok a s) = P v a s
+CameTo P text (Ok v) (stop k s) = ⊥
+CameTo P text (Err f) (ok a s) = ⊥
+CameTo P text (Err f) (stop k s) = (number_of f.refusal ≡ k) × At text f.at s
 
--- the word from `at` on goes on with its byte i, at j
-pub record Spelt (text word : List ℕ) (at i j : ℕ) : Type 0 where
-  pub inside : j ≤ length text
-  pub within : i ≤ length word
-  pub same : literal word (drop at text) ≡ literal (drop i word) (drop j text)
+-- where only the place behind is told
+abbrev pub Came : {A : Type 0} → List ℕ → Result ℕ Fault → Read A → Type 0
+Came text r o = CameTo (λ at a s. At text at s) text r o
 
-module _ (text word : List ℕ) (at : ℕ) where
-  pub begun : at ≤ length text → Spelt text word at 0 at
-  begun h = record { inside = h; within = omega arith; same = refl }
+-- What a reader came to, and another that goes on with what it read: a fault is the fault of both; else what is read behind it decides.
+module _ {A B V W : Type 0} (P : V → A → List ℕ → Type 0) (Q : W → B → List ℕ → Type 0) (text : List ℕ) (f : A → Reader B) where
+  pub faulty : (e : Fault) (o : Read A) → CameTo P text (Err e) o → CameTo Q text (Err e) (onward o f)
+  faulty e (ok a s) c = absurd c
+  faulty e (stop k s) c = c
 
-  module _ (i j : ℕ) (s : Spelt text word at i j) where
-    step : (b c : ℕ) (l t : List ℕ) → b ≡ c → literal (b ∷ l) (c ∷ t) ≡ literal l t
-    step b c l t p = rw (eq-eqb b c p)
+  pub onwards : (v : V) (o : Read A) (r : Result W Fault) → CameTo P text (Ok v) o → ((a : A) (s : List ℕ) → P v a s → CameTo Q text r (f a s)) → CameTo Q text r (onward o f)
+  onwards v (ok a s) r c g = g a s c
+  onwards v (stop k s) r c g = absurd c
 
-    stuck : (b c : ℕ) (l t : List ℕ) → b ≢ c → literal (b ∷ l) (c ∷ t) ≡ stop outside (c ∷ t)
-    stuck b c l t p = rw (ne_eqb b c p)
+-- the place that a step came to is one of the text
+pub came_inside : {A : Type 0} (text : List ℕ) (at : ℕ) (o : Read A) → Came text (Ok at) o → at ≤ length text
+came_inside text at (ok a s) c = c.inside
+came_inside text at (stop k s) c = absurd c
 
-    pub more : i < length word → j < length text → get_or text j 0 ≡ get_or word i 0 → Spelt text word at (i + 1) (j + 1)
-    more h k p =
-        let d = drop-cons word i 0 h in
-        let e = drop-cons text j 0 k in
-        record {
-          inside = omega arith;
-          within = omega arith;
-          same = s.same ∙ rw (d, e, add-one i, add-one j) (step (get_or word i 0) (get_or text j 0) (drop (suc i) word) (drop (suc j) text) (sym p));
-        }
+-- a step, and what is read behind it
+module _ {A B W : Type 0} (Q : W → B → List ℕ → Type 0) (text : List ℕ) (f : A → Reader B) where
+  pub came_faulty : (e : Fault) (o : Read A) → Came text (Err e) o → CameTo Q text (Err e) (onward o f)
+  came_faulty e o c = faulty (λ at a s. At text at s) Q text f e o c
 
-    came : (r : Step) (o : Read (Unit {0})) → literal word (drop at text) ≡ o → Came text r o → Came text r (literal word (drop at text))
-    came r o p q = rw p q
+  pub came_onwards : (at : ℕ) (o : Read A) (r : Result W Fault) → Came text (Ok at) o → ((a : A) → CameTo Q text r (f a (drop at text))) → CameTo Q text r (onward o f)
+  came_onwards at o r c g = onwards (λ at a s. At text at s) Q text f at o r c (λ a s x. subst (λ s. CameTo Q text r (f a s)) x.rest (g a))
 
-    pub whole : length word ≤ i → Came text (record { number = 0; at = j }) (literal word (drop at text))
-    whole h =
-        came (record { number = 0; at = j }) (ok tt (drop j text)) (s.same ∙ rw (drop_of_length-le word h)) (refl, record { inside = s.inside; rest = refl })
+-- ---- a word
 
-    pub short : i < length word → length text ≤ j → Came text (record { number = 14; at = j }) (literal word (drop at text))
-    short h k =
-        let d = drop-cons word i 0 h in
-        let e = drop_of_length-le text k in
-        came (record { number = 14; at = j }) (stop outside []) (s.same ∙ rw (d, e)) (refl, record { inside = s.inside; rest = e })
+abbrev pub alike : ℕ × ℕ → Bool
+alike p = eqb p.0 p.1
 
-    pub differ : i < length word → j < length text → get_or text j 0 ≢ get_or word i 0 → Came text (record { number = 14; at = j }) (literal word (drop at text))
-    differ h k p =
-        let d = drop-cons word i 0 h in
-        let e = drop-cons text j 0 k in
-        came (record { number = 14; at = j }) (stop outside (get_or text j 0 ∷ drop (suc j) text))
-        (s.same ∙ rw (d, e) (stuck (get_or word i 0) (get_or text j 0) (drop (suc i) word) (drop (suc j) text) (λ q. p (sym q))))
-        (refl, record { inside = s.inside; rest = e })
+-- how many bytes of a text are those of the word
+abbrev pub spelt : List ℕ → List ℕ → ℕ
+spelt s word = prefix_len alike (zip s word)
+
+spelt_short : (s word : List ℕ) → spelt s word ≤ length s
+spelt_short [] word = omega arith
+spelt_short (b ∷ s) [] = omega arith
+spelt_short (b ∷ s) (c ∷ word) = by (eqb b c) (spelt_short s word)
+  where
+    by : (x : Bool) → spelt s word ≤ length s → cond x (1 + spelt s word) 0 ≤ suc (length s)
+    by true h = omega arith
+    by false h = omega arith
+
+-- all of them, or not
+spelt_whole : (s word : List ℕ) → spelt s word ≡ length word → literal word s ≡ ok tt (drop (spelt s word) s)
+spelt_whole s [] e = by s
+  where
+    by : (s : List ℕ) → literal [] s ≡ ok tt (drop (spelt s []) s)
+    by [] = refl
+    by (b ∷ s) = refl
+spelt_whole [] (c ∷ word) e = absurd (omega arith)
+spelt_whole (b ∷ s) (c ∷ word) e = by (eqb b c) refl e (spelt_whole s word)
+  where
+    by : (x : Bool) → eqb b c ≡ x → cond x (1 + spelt s word) 0 ≡ suc (length word) → (spelt s word ≡ length word → literal word s ≡ ok tt (drop (spelt s word) s))
+        → literal (c ∷ word) (b ∷ s) ≡ ok tt (drop (cond x (1 + spelt s word) 0) (b ∷ s))
+    by true p e f = let q = eqb-true b c p in rw (eq-eqb c b (sym q), one-add (spelt s word)) (f (omega arith))
+    by false p e f = absurd (omega arith)
+
+spelt_part : (s word : List ℕ) → spelt s word ≢ length word → literal word s ≡ stop outside (drop (spelt s word) s)
+spelt_part s [] e = absurd (e (by s))
+  where
+    by : (s : List ℕ) → spelt s [] ≡ 0
+    by [] = refl
+    by (b ∷ s) = refl
+spelt_part [] (c ∷ word) e = refl
+spelt_part (b ∷ s) (c ∷ word) e = by (eqb b c) refl e (spelt_part s word)
+  where
+    by : (x : Bool) → eqb b c ≡ x → cond x (1 + spelt s word) 0 ≢ suc (length word) → (spelt s word ≢ length word → literal word s ≡ stop outside (drop (spelt s word) s))
+        → literal (c ∷ word) (b ∷ s) ≡ stop outside (drop (cond x (1 + spelt s word) 0) (b ∷ s))
+    by true p e f = let q = eqb-true b c p in rw (eq-eqb c b (sym q), one-add (spelt s word)) (f (λ z. e (omega arith)))
+    by false p e f = rw (ne_eqb c b (λ z. eqb-false b c p (sym z)))
+
+module _ (text word : List ℕ) (at n : ℕ) (h : at ≤ length text) (e : n ≡ spelt (drop at text) word) where
+  placed : At text (at + n) (drop (spelt (drop at text) word) (drop at text))
+  placed =
+      record {
+        inside = omega (arith, spelt_short (drop at text) word, length-drop at text);
+        rest = sym (drop-drop n at text) ∙ rw e;
+      }
+
+  pub whole : n ≡ length word → Came text (Ok (at + n)) (literal word (drop at text))
+  whole p = rw (spelt_whole (drop at text) word (sym e ∙ p)) placed
+
+  pub broken : n ≢ length word → Came text (Err (record { refusal = DtdText; at = at + n })) (literal word (drop at text))
+  broken p = rw (spelt_part (drop at text) word (λ z. p (e ∙ z))) (refl, placed)

@@ -7,87 +7,51 @@
 ghost use Rattle.std.specs.Prelude.{◌≡◌, ◌≤◌, length};
 ghost use Rattle.paper.specs.Basics.{most_tokens};
 ghost use Rattle.edit_file.specs.Piece.{PieceAt};
-ghost use Rattle.edit_file.specs.Request.{no_edit, EditAt};
+ghost use Rattle.edit_file.specs.Request.{EditAt};
 
-use paper::{DONE, MOST_TOKENS, MOST_VALUE, ROOM};
-use reading::{Place, no_place, number_in};
+use paper::{MOST_TOKENS, MOST_VALUE, Refusal};
+use reading::number_in;
 
-// The `n` numbers at a place of the file go into the first places of the piece.
-fn put_piece(file: &[u8], at: usize, n: usize, piece: &mut [u32]) -> Place
-    requires { (at ≤ length file.now) × (n ≤ length piece.old) }
-    ensures { PieceAt n file.now at result piece.new }
+// The numbers at a place of the file go into the piece, as many as it has places; the place after them.
+fn put_piece(file: &[u8], at: usize, piece: &mut [u32]) -> Result<usize, Refusal>
+    requires { at ≤ length file.now }
+    ensures { PieceAt (length piece.old) file.now at piece.new result }
 {
     let mut from = at;
-    let mut i: usize = 0;
-    while i < n {
-        let t = number_in(file, from, 0, MOST_VALUE);
-        if t.number != DONE {
-            return no_place(t.number);
-        }
-        piece[i] = t.value;
-        from = t.next;
-        i += 1;
+    for t in piece.iter_mut() {
+        let n = number_in(file, from, 0, MOST_VALUE)?;
+        *t = n.value;
+        from = n.next;
     }
-    Place {
-        number: DONE,
-        next: from,
-    }
+    Ok(from)
 }
 
-// An edit that was read: 0, the place after it, and what it asks for, its piece being the first `count` tokens; or the number of the
-// stop.
+// An edit that was read: the place after it, and what it asks for, its piece being the first `count` tokens.
 #[derive(Clone, Copy)]
 pub struct Edit {
-    pub number: u32,
     pub next: usize,
     pub operation: u32,
     pub place: u32,
     pub count: usize,
 }
 
-// No edit is taken.
-fn no_edit(number: u32) -> Edit
-    ensures { result ≡ no_edit number }
-{
-    Edit {
-        number,
-        next: 0,
-        operation: 0,
-        place: 0,
-        count: 0,
-    }
-}
-
 // The edit at a place of the file. "5 for a piece count over 8,192"
-pub fn edit_at(file: &[u8], at: usize, piece: &mut [u32]) -> Edit
+pub fn edit_at(file: &[u8], at: usize, piece: &mut [u32]) -> Result<Edit, Refusal>
     requires { length piece.old ≡ most_tokens }
-    ensures { EditAt file.now at result piece.new }
+    ensures { EditAt file.now at piece.new result }
 {
-    let o = number_in(file, at, 0, MOST_VALUE);
-    if o.number != DONE {
-        return no_edit(o.number);
-    }
-    let w = number_in(file, o.next, 0, MOST_VALUE);
-    if w.number != DONE {
-        return no_edit(w.number);
-    }
-    let n = number_in(file, w.next, 0, MOST_VALUE);
-    if n.number != DONE {
-        return no_edit(n.number);
-    }
+    let operation = number_in(file, at, 0, MOST_VALUE)?;
+    let place = number_in(file, operation.next, 0, MOST_VALUE)?;
+    let n = number_in(file, place.next, 0, MOST_VALUE)?;
     let count = n.value as usize;
     if count > MOST_TOKENS {
-        return no_edit(ROOM);
+        return Err(Refusal::Room);
     }
-    let p = put_piece(file, n.next, count, piece);
-    if p.number != DONE {
-        return no_edit(p.number);
-    }
-    Edit {
-        number: DONE,
-        next: p.next,
-        operation: o.value,
-        place: w.value,
+    let next = put_piece(file, n.next, &mut piece[..count])?;
+    Ok(Edit {
+        next,
+        operation: operation.value,
+        place: place.value,
         count,
-    }
+    })
 }

@@ -8,12 +8,14 @@ use Rattle.paper.specs.Table.{proper}
 use Rattle.paper.specs.Rules.{Rules, of_table}
 use Rattle.paper.specs.Edits.{Request, Edited, refused, done, Outcome, outcome, edit_by, edit}
 use Rattle.paper.specs.Program.{Line, halt, line, request, second, edit_lines}
+use Rattle.paper.specs.Codes.{number_of}
+use Rattle.paper.specs.declared.Refusal.{Refusal}
 use Rattle.edits.specs.declared.Answer.{Answer}
 use Rattle.edits.specs.Outcomes.{outcome_of}
 use Rattle.edit_file.specs.declared.Edit.{Edit}
 use Rattle.lines.specs.Put.{Put, put_length, put_both, put_as, put_none}
-use Rattle.lines.specs.Lines.{line_of, text, text_none, text_more, line_room, Stop}
-use Rattle.edit_file.specs.Request.{EditAt}
+use Rattle.lines.specs.Lines.{line_of, text, text_none, text_more, line_room}
+use Rattle.edit_file.specs.Request.{EditRead, EditRefused}
 
 -- the most bytes of all lines
 abbrev pub output_room : ℕ
@@ -107,25 +109,19 @@ module _ (table doc₀ : List ℕ) (used₀ : ℕ) (counts₀ : List ℤ) (file 
       left : suc (length file) - k ≡ suc (length file - k)
       left = omega (arith, g.few, g.some)
 
-      module _ {e : Edit} {piece' : List ℕ} (a : EditAt file from e piece') where
-        pub go_stop : {r : ℕ} {out' : List ℕ} → (e.number ≡ 0 → ⊥) → Put out to (line_of (halt e.number)) r out' → Put out₀ at all_lines r out'
-        go_stop z p =
-            let s : request (get_or file from 0 ∷ drop (suc from) file) ≡ stop e.number = rw next at (a.ended.stopped z) in
-            let t : text (edit_lines (suc (length file) - k) (of_table table) k doc used counts (drop from file)) ≡ line_of (halt e.number) =
-            rw (next, left, run_stop (of_table table) k doc used counts (length file - k) (get_or file from 0) (drop (suc from) file) s, text_more, text_none)
-            (append-nil (line_of (halt e.number))) in
-            put_as (put_both g.put p) (sym (g.same ∙ ap (λ l. g.lines ++ l) t))
+      pub go_stop : {e : Refusal} {piece' : List ℕ} → EditRefused file from piece' e → {r : ℕ} {out' : List ℕ} → Put out to (line_of (halt (number_of e))) r out' → Put out₀ at all_lines r out'
+      go_stop {e} a p =
+          let s : request (get_or file from 0 ∷ drop (suc from) file) ≡ stop (number_of e) = rw next at a.stopped in
+          let t : text (edit_lines (suc (length file) - k) (of_table table) k doc used counts (drop from file)) ≡ line_of (halt (number_of e)) =
+          rw (next, left, run_stop (of_table table) k doc used counts (length file - k) (get_or file from 0) (drop (suc from) file) s, text_more, text_none)
+          (append-nil (line_of (halt (number_of e)))) in
+          put_as (put_both g.put p) (sym (g.same ∙ ap (λ l. g.lines ++ l) t))
 
-        pub go_halt : (e.number ≡ 0 → ⊥) → Stop e.number
-        go_halt z = elim a.stops [
-          | inl f ↦ record { low = omega arith; high = omega arith; not_four = λ y. omega arith }
-          | inr f ↦ record { low = omega arith; high = omega arith; not_four = λ y. omega arith }
-        ]
+      module _ {e : Edit} {piece' : List ℕ} (a : EditRead file from piece' e) where
+        pub go_less : length file - e.next < length file - from
+        go_less = omega (arith, a.on)
 
-        pub go_less : e.number ≡ 0 → length file - e.next < length file - from
-        go_less z = omega (arith, a.on z)
-
-        module _ (z : e.number ≡ 0) (ok-table : proper table ≡ true) {r : Answer} {doc' back' : List ℕ} {counts' : List ℤ}
+        module _ (ok-table : proper table ≡ true) {r : Answer} {doc' back' : List ℕ} {counts' : List ℤ}
             (o : outcome_of r doc' back' counts' ≡ edit table doc used (asked e piece') back counts) where
           by_table : outcome_of r doc' back' counts' ≡ outcome doc used back counts (edit_by (of_table table) doc used (asked e piece') back counts)
           unfolding edit
@@ -134,15 +130,14 @@ module _ (table doc₀ : List ℕ) (used₀ : ℕ) (counts₀ : List ℤ) (file 
           pub go_more : {to' : ℕ} {out' : List ℕ} → length doc' ≡ length doc → length back' ≡ length back → length piece' ≡ most_tokens → Put out to (line_of (line k r.number r.place r.used)) to' out'
               → to' ≤ to + line_room → Going table doc₀ used₀ counts₀ file out₀ at doc' out' piece' back' counts' r.used e.next (k + 1) to'
           go_more {to'} {out'} kept Kept-back l p w =
-              let n = a.ended.went z in
-              let f : request (get_or file from 0 ∷ drop (suc from) file) ≡ ok (asked e piece') (drop e.next file) = rw next at (n.reads ∙ ap (λ x. ok x (drop e.next file)) n.holds) in
+              let f : request (get_or file from 0 ∷ drop (suc from) file) ≡ ok (asked e piece') (drop e.next file) = rw next at a.reads in
               let m : suc (length file) - (k + 1) ≡ length file - k = omega arith in
               let t : text (edit_lines (suc (length file) - k) (of_table table) k doc used counts (drop from file))
               ≡ line_of (line k r.number r.place r.used) ++ text (edit_lines (suc (length file) - (k + 1)) (of_table table) (k + 1) doc' r.used counts' (drop e.next file)) =
               rw (next, left, m, add-one k, run_more (of_table table) k doc used counts (length file - k) (get_or file from 0) (drop (suc from) file) back f g.second_places (outcome_of r doc' back' counts') by_table, text_more) in
               record {
-                within = n.within;
-                few = omega (arith, g.few, a.on z);
+                within = a.within;
+                few = omega (arith, g.few, a.on);
                 some = omega arith;
                 room = omega (arith, g.room);
                 long = put_length p ∙ g.long;

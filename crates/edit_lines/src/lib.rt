@@ -18,7 +18,7 @@ ghost use Rattle.edit_lines.specs.Run.{output_room, asked};
 use edit_file::{Edit, edit_at};
 use edits::{Answer, edit};
 use lines::{LINE, put_line, put_stop};
-use paper::{DONE, MOST_BACK, MOST_ELEMENTS, MOST_TOKENS};
+use paper::{MOST_BACK, MOST_ELEMENTS, MOST_TOKENS};
 
 // Room for every line: an edit is three bytes or more, so there are at most 21,845, with the check's line before them and a stop after.
 pub const OUTPUT: usize = 21847 * LINE;
@@ -62,10 +62,10 @@ pub fn put_edits(
     let mut k: usize = 1;
     let mut to = at;
     while from < file.len() {
-        let e = edit_at(file, from, &mut piece);
-        if e.number != DONE {
-            return put_stop(out, to, e.number);
-        }
+        let e = match edit_at(file, from, &mut piece) {
+            Ok(e) => e,
+            Err(refusal) => return put_stop(out, to, refusal),
+        };
         let a = make(table, doc, held, e, &piece, &mut back, counts);
         to = put_line(out, to, k, a.number, a.place, a.used);
         held = a.used;

@@ -5,10 +5,11 @@
 #![tactic(auto)]
 
 ghost use Rattle.std.specs.Prelude.{◌≡◌, ◌≤◌, length, drop};
+ghost use Rattle.paper.specs.Codes.{said};
 ghost use Rattle.paper.specs.Lists.{split_list, fault_of};
 ghost use Rattle.edit_list.specs.Places.{whole, Within, Handed};
 
-use paper::{BACK_PIECE, DONE, MOST_EDITS, ROOM, SHAPE};
+use paper::{BACK_PIECE, MOST_EDITS, Refusal};
 
 // The list from a place on begins with a whole edit: operation, place, piece count and piece. "ends inside an edit is 4": a piece count over what is left included.
 fn whole_at(list: &[u32], at: usize) -> bool
@@ -47,25 +48,25 @@ pub fn edit_at(list: &[u32], at: usize) -> Edit
     }
 }
 
-// The list's own fault: "a list that is empty or ends inside an edit is 4, a 257th edit begun is 5, the first met from the front"; or 0.
-pub fn list_fault(list: &[u32]) -> u32
-    ensures { result ≡ fault_of (split_list list.now) }
+// The list's own fault: "a list that is empty or ends inside an edit is 4, a 257th edit begun is 5, the first met from the front".
+pub fn list_fault(list: &[u32]) -> Result<(), Refusal>
+    ensures { said result ≡ fault_of (split_list list.now) }
 {
     if list.len() == 0 {
-        return SHAPE;
+        return Err(Refusal::Shape);
     }
     let mut at: usize = 0;
     let mut begun: usize = 0;
     while at < list.len() {
         if begun == MOST_EDITS {
-            return ROOM;
+            return Err(Refusal::Room);
         }
         if !whole_at(list, at) {
-            return SHAPE;
+            return Err(Refusal::Shape);
         }
         let e = edit_at(list, at);
         at = e.to;
         begun += 1;
     }
-    DONE
+    Ok(())
 }

@@ -13,12 +13,14 @@ ghost use Rattle.paper.specs.Shape.{shape_of};
 ghost use Rattle.paper.specs.Table.{proper};
 ghost use Rattle.paper.specs.Rules.{of_table};
 ghost use Rattle.paper.specs.Edits.{editing, written, outcome, edit};
-ghost use Rattle.counts.specs.Whole.{Moved};
+ghost use Rattle.paper.specs.Counts.{moved_from};
+ghost use Rattle.counts.specs.Moved.{Numbers};
+ghost use Rattle.form.specs.Form.{InForm};
 ghost use Rattle.edits.specs.Outcomes.{outcome_of, refusal, done_with};
 
 use back::{need, note};
 use counts::{moves, put};
-use form::form_of;
+use form::{Form, form_of};
 use touched::judged;
 use written::{change_of, write};
 
@@ -47,30 +49,23 @@ pub fn refused(number: u32, place: u32, used: usize) -> Answer
 }
 
 // The edited tokens go into the document: the answer of a done edit.
-pub fn commit(
-    doc: &mut [u32],
-    used: usize,
-    new: &[u32],
-    at: usize,
-    end: usize,
-    children: u32,
-) -> Answer
-    requires at_le_end { (at ≤ end) × (end ≤ length doc.old) × (end ≤ length new.now) × (used ≤ length doc.old) × (take at (take end new.now) ≡ take at doc.old) }
-    requires used_le_most_tokens { (used ≤ most_tokens) × (end ≤ most_tokens) }
-    ensures { (doc.new ≡ written doc.old used (take end new.now)) × (result ≡ done_with used end children) }
+pub fn commit(doc: &mut [u32], used: usize, new: &[u32], at: usize, children: u32) -> Answer
+    requires at_in_bounds { (at ≤ length new.now) × (length new.now ≤ length doc.old) × (used ≤ length doc.old) × (take at new.now ≡ take at doc.old) }
+    requires used_le_most_tokens { (used ≤ most_tokens) × (length new.now ≤ most_tokens) }
+    ensures { (doc.new ≡ written doc.old used new.now) × (result ≡ done_with used (length new.now) children) }
 {
-    write(doc, used, new, at, end);
+    write(doc, used, new, at);
     Answer {
         number: paper::DONE,
         place: 0,
-        used: end,
-        change: change_of(used, end),
+        used: new.len(),
+        change: change_of(used, new.len()),
         children,
     }
 }
 
 // "carried along by edits": the counts after an edit that cuts `cut` tokens of the document at a place and puts `coming` tokens of the edited
-// one there. The answer: all are 0 to 8,192.
+// one there, if all are 0 to 8,192.
 pub fn carried(
     table: &[u64],
     counts: &[i32; paper::MOST_ELEMENTS],
@@ -79,22 +74,53 @@ pub fn carried(
     at: usize,
     cut: usize,
     coming: usize,
-    after: &mut [u32; paper::MOST_ELEMENTS],
-) -> bool
+) -> Option<[u32; paper::MOST_ELEMENTS]>
     requires { (proper table.now ≡ true) × (at + cut ≤ length doc.now) × (cut ≤ most_tokens) × (at + coming ≤ length new.now) × (coming ≤ most_tokens) }
-    ensures { Moved (of_table table.now).elements (toks (take cut (drop at doc.now))) (toks (take coming (drop at new.now))) counts.now after.new result }
+    ensures { Numbers (moved_from (toks (take cut (drop at doc.now))) (toks (take coming (drop at new.now))) (of_table table.now).elements 0 counts.now) result }
 {
     let elements = table[0] as u32;
-    moves(
-        counts,
-        &doc[at..at + cut],
-        &new[at..at + coming],
-        elements,
-        after,
-    )
+    moves(counts, &doc[at..at + cut], &new[at..at + coming], elements)
 }
 
-// An edit of a document with shape, by a proper table. A refusal writes nothing to what is lent.
+// An edit in form, of a document with shape, by a proper table; new holds the edited tokens. A refusal writes nothing to what is lent.
+fn edit_in_form(
+    table: &[u64],
+    doc: &mut [u32],
+    used: usize,
+    operation: u32,
+    place: usize,
+    piece: &[u32],
+    back: &mut [u32],
+    counts: &mut [i32; paper::MOST_ELEMENTS],
+    f: Form,
+    new: &[u32],
+) -> Answer
+    requires table_value { (proper table.now ≡ true) × (shape_of doc.old used ≡ true) }
+    requires form { InForm (length doc.old) (record { operation = operation; place = place; piece = piece.now }) (take used doc.old) new.now f }
+    ensures { outcome_of result doc.new back.new counts.new ≡ outcome doc.old used back.old counts.old (editing (of_table table.now) (length doc.old) (length back.old) (record { operation = operation; place = place; piece = piece.now }) (take used doc.old) counts.old) }
+{
+    let at = f.at;
+    let cut = used + f.coming - f.used;
+    let room = paper::BACK_PIECE + need(operation, cut);
+    if back.len() < room {
+        return refused(paper::ROOM, 0, used);
+    }
+    let Some(after) = carried(table, counts, doc, new, at, cut, f.coming) else {
+        return refused(paper::COUNTS, 0, used);
+    };
+    let end = f.used;
+    let edited = &new[..end];
+    match judged(table, edited, at, f.coming) {
+        Err(fault) => refused(fault.refusal.number(), fault.place, used),
+        Ok(children) => {
+            note(back, &doc[..used], operation, place, piece, at, cut);
+            put(counts, &after);
+            commit(doc, used, edited, at, children)
+        }
+    }
+}
+
+// An edit of a document with shape, by a proper table.
 fn edit_shaped(
     table: &[u64],
     doc: &mut [u32],
@@ -109,28 +135,13 @@ fn edit_shaped(
     ensures { outcome_of result doc.new back.new counts.new ≡ outcome doc.old used back.old counts.old (editing (of_table table.now) (length doc.old) (length back.old) (record { operation = operation; place = place; piece = piece.now }) (take used doc.old) counts.old) }
 {
     let mut new = [0u32; paper::MOST_TOKENS];
-    let f = form_of(doc, used, operation, place, piece, &mut new);
-    if f.number != paper::DONE {
-        return refused(f.number, 0, used);
+    let room = doc.len();
+    match form_of(&doc[..used], room, operation, place, piece, &mut new) {
+        Err(refusal) => refused(refusal.number(), 0, used),
+        Ok(f) => edit_in_form(
+            table, doc, used, operation, place, piece, back, counts, f, &new,
+        ),
     }
-    let end = f.used;
-    let at = f.at;
-    let cut = used + f.coming - end;
-    let room = paper::BACK_PIECE + need(operation, cut);
-    if back.len() < room {
-        return refused(paper::ROOM, 0, used);
-    }
-    let mut after = [0u32; paper::MOST_ELEMENTS];
-    if !carried(table, counts, doc, &new, at, cut, f.coming, &mut after) {
-        return refused(paper::COUNTS, 0, used);
-    }
-    let seen = judged(table, &new, end, at, f.coming);
-    if seen.number != paper::DONE {
-        return refused(seen.number, seen.place, used);
-    }
-    note(back, &doc[..used], operation, place, piece, at, cut);
-    put(counts, &after);
-    commit(doc, used, &new, at, end, seen.children)
 }
 
 // An edit: 1 insert, 2 remove, 3 replace, 4 set, 5 drop. "Order: table (13); document shape (4); operation not 1 to 5 (6); piece (4); place

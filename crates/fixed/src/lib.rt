@@ -66,8 +66,7 @@ fn proper_entries(table: &[u64], n: usize) -> bool
 {
     let mut e: u64 = 0;
     let mut low: u64 = 0;
-    let mut i = 0;
-    while i < n {
+    for i in 0..n {
         let at = FIXED_AT + 1 + i * ENTRY_WORDS;
         let x = table[at];
         let a = table[at + 1];
@@ -76,7 +75,6 @@ fn proper_entries(table: &[u64], n: usize) -> bool
         }
         e = x;
         low = a + 1;
-        i += 1;
     }
     true
 }

@@ -1,5 +1,5 @@
 -- The attributes of an element, each of them kept to its fixed value. Assumes nothing.
-use Rattle.std.specs.Prelude.{◌≡◌, Bool, true, not, ◌&&◌, ℕ, suc, ◌+◌, ◌/◌, ◌≤◌, ◌<◌, length, take, get_or}
+use Rattle.std.specs.Prelude.{◌≡◌, Option as Answered, Some, None, Bool, true, not, ◌&&◌, ℕ, suc, ◌+◌, ◌/◌, ◌≤◌, ◌<◌, length, get_or}
 use Rattle.std.proofs.Math.Path.{refl, sym, ap}
 use Rattle.std.proofs.Common.{◌∙◌, add-one, arith}
 use Rattle.std.proofs.Math.Bool.{false}
@@ -13,12 +13,10 @@ use Rattle.paper.specs.Table.{fixed_at, fixed_part, entries}
 use Rattle.paper.specs.Rules.{fixed_by}
 use Rattle.paper.specs.Judgement.{each_attr, only_value, fixed_good}
 use Rattle.basic_laws.specs.Bools.{clash}
-use Rattle.shape_laws.specs.Ends.{rest_next, rest_none}
+use Rattle.shape_laws.specs.Ends.{rest_at, rest_past}
 use Rattle.fixed.specs.Places.{entries_at, same_entries}
 use Rattle.tokens.specs.Sorts.{attr_tok, value_tok}
 use Rattle.tokens.specs.Theorems.{attr_iff, value_iff}
-use Rattle.fixed_values.specs.declared.Fixed.{Fixed}
-use Rattle.fixed_values.specs.declared.Fixed.TheVariants.{Free, To}
 use Rattle.fixed_values.specs.Value.{value_of}
 
 -- each attribute of h that is fixed has its value
@@ -44,35 +42,35 @@ kept_none t e z h = each h
 
 -- ---- one attribute
 
-module _ (t : List ℕ) (e a : ℕ) (r : List Tok) (w : Fixed) where
-  pub kept_free : w ≡ Free → value_of w ≡ fixed_by (entries (fixed_part t)) e a → true ≡ fixed_good (fixed_by (entries (fixed_part t)) e a) r
+module _ (t : List ℕ) (e a : ℕ) (r : List Tok) (w : Answered ℕ) where
+  pub kept_free : w ≡ None → value_of w ≡ fixed_by (entries (fixed_part t)) e a → true ≡ fixed_good (fixed_by (entries (fixed_part t)) e a) r
   kept_free c q = rw (← q, c)
 
-  pub kept_to : {v : ℕ} {b : Bool} → w ≡ To v → value_of w ≡ fixed_by (entries (fixed_part t)) e a → b ≡ only_value v r
+  pub kept_to : {v : ℕ} {b : Bool} → w ≡ Some v → value_of w ≡ fixed_by (entries (fixed_part t)) e a → b ≡ only_value v r
       → b ≡ fixed_good (fixed_by (entries (fixed_part t)) e a) r
   kept_to c q d = rw (← q, c) d
 
 -- ---- one after another
 
 -- what the attributes from place i on must show is what all must
-pub record Keeping (t : List ℕ) (e : ℕ) (doc : List ℕ) (used at i : ℕ) : Type 0 where
-  pub here : i ≤ used
-  pub left : fixed_kept t e (heads (drop at (toks (take used doc)))) ≡ fixed_kept t e (heads (drop i (toks (take used doc))))
+pub record Keeping (t : List ℕ) (e : ℕ) (doc : List ℕ) (at i : ℕ) : Type 0 where
+  pub here : i ≤ length doc
+  pub left : fixed_kept t e (heads (drop at (toks doc))) ≡ fixed_kept t e (heads (drop i (toks doc)))
 
-pub keeping_none : (t : List ℕ) (e : ℕ) (doc : List ℕ) (used at : ℕ) → at ≤ used → Keeping t e doc used at at
-keeping_none t e doc used at h = record { here = h; left = refl }
+pub keeping_none : (t : List ℕ) (e : ℕ) (doc : List ℕ) (at : ℕ) → at ≤ length doc → Keeping t e doc at at
+keeping_none t e doc at h = record { here = h; left = refl }
 
-module _ {t : List ℕ} {e : ℕ} {doc : List ℕ} {used at i : ℕ} (c : Keeping t e doc used at i) where
+module _ {t : List ℕ} {e : ℕ} {doc : List ℕ} {at i : ℕ} (c : Keeping t e doc at i) where
   abbrev d : List Tok
-  d = toks (take used doc)
+  d = toks doc
 
-  pub keeping_all : used ≤ i → true ≡ fixed_kept t e (heads (drop at d))
+  pub keeping_all : length doc ≤ i → true ≡ fixed_kept t e (heads (drop at d))
   unfolding fixed_kept
-  keeping_all h = let z : i ≡ used = omega (arith, c.here) in sym (c.left ∙ rw (z, rest_none doc used))
+  keeping_all h = sym (c.left ∙ rw (rest_past doc i h))
 
-  module _ (h : i < used) (l : used ≤ length doc) where
+  module _ (h : i < length doc) where
     next : {x : Tok} → tok_of (get_or doc i 0) ≡ x → drop i d ≡ x ∷ drop (i + 1) d
-    next q = rw (add-one i) (rest_next doc used i h l ∙ ap (λ x. x ∷ drop (suc i) d) q)
+    next q = rw (add-one i) (rest_at doc i h ∙ ap (λ x. x ∷ drop (suc i) d) q)
 
     module _ {y : Bool} (ey : y ≡ attr_tok (tok_of (get_or doc i 0))) where
       module _ (s : y ≡ true) {a : ℕ} (ea : a ≡ get_or doc i 0 / 8) {r : Bool} (er : r ≡ fixed_good (fixed_by (entries (fixed_part t)) e a) (heads (drop (i + 1) d))) where
@@ -84,11 +82,11 @@ module _ {t : List ℕ} {e : ℕ} {doc : List ℕ} {used at i : ℕ} (c : Keepin
         pub keeping_not : not r ≡ true → false ≡ fixed_kept t e (heads (drop at d))
         keeping_not n = sym (whole ∙ ap (λ b. b && fixed_kept t e (heads (drop (i + 1) d))) (not-true r n))
 
-        pub keeping_attribute : not r ≡ false → Keeping t e doc used at (i + 1)
+        pub keeping_attribute : not r ≡ false → Keeping t e doc at (i + 1)
         keeping_attribute n = record { here = omega arith; left = whole ∙ ap (λ b. b && fixed_kept t e (heads (drop (i + 1) d))) (not-false r n) }
 
       module _ (s : y ≡ false) {z : Bool} (ez : z ≡ value_tok (tok_of (get_or doc i 0))) where
-        pub keeping_value : z ≡ true → Keeping t e doc used at (i + 1)
+        pub keeping_value : z ≡ true → Keeping t e doc at (i + 1)
         unfolding fixed_kept
         keeping_value k = record { here = omega arith; left = c.left ∙ ap (λ k. fixed_kept t e (heads k)) (next ((value_iff (get_or doc i 0)).0 (sym ez ∙ k))) }
 

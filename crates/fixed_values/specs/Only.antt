@@ -1,5 +1,5 @@
 -- One value alone at a place. Assumes nothing.
-use Rattle.std.specs.Prelude.{◌≡◌, refl, Bool, true, not, ◌&&◌, List, [], ◌∷◌, ℕ, ◌+◌, ◌/◌, eqb, take, drop, get_or}
+use Rattle.std.specs.Prelude.{◌≡◌, refl, Bool, true, not, ◌&&◌, List, [], ◌∷◌, ℕ, ◌+◌, ◌/◌, eqb, drop, get_or}
 use Rattle.std.proofs.Common.{sym, ap, ◌∙◌, drop-drop}
 use Rattle.std.proofs.Math.Dec.{eqb-suc-zero}
 use Rattle.paper.specs.declared.Tok.{Tok}
@@ -34,11 +34,11 @@ only_is v m (End ∷ d) f = refl
 only_is v m (Text n ∷ d) f = refl
 only_is v m (Bad ∷ d) f = refl
 
-module _ (doc : List ℕ) (used place v : ℕ) {t next m : ℕ} {p q : Bool} where
-  pub only_value_lem : t ≡ get_or (take used doc) place 0 → next ≡ get_or (take used doc) (place + 1) 0 → p ≡ value_tok (tok_of t) → m ≡ t / 8
-      → q ≡ value_tok (tok_of next) → p && eqb m v && not q ≡ only_value v (heads (drop place (toks (take used doc))))
+module _ (doc : List ℕ) (place v : ℕ) {t next m : ℕ} {p q : Bool} where
+  pub only_value_lem : t ≡ get_or doc place 0 → next ≡ get_or doc (place + 1) 0 → p ≡ value_tok (tok_of t) → m ≡ t / 8
+      → q ≡ value_tok (tok_of next) → p && eqb m v && not q ≡ only_value v (heads (drop place (toks doc)))
   only_value_lem et en ep em eq =
-      let d : List Tok = drop place (toks (take used doc)) in
-      let here : tok_of t ≡ head_tok d = ap tok_of et ∙ head_is (take used doc) place in
-      let then : tok_of next ≡ head_tok (drop 1 d) = ap tok_of en ∙ head_is (take used doc) (place + 1) ∙ ap head_tok (sym (drop-drop 1 place (toks (take used doc)))) in
+      let d : List Tok = drop place (toks doc) in
+      let here : tok_of t ≡ head_tok d = ap tok_of et ∙ head_is doc place in
+      let then : tok_of next ≡ head_tok (drop 1 d) = ap tok_of en ∙ head_is doc (place + 1) ∙ ap head_tok (sym (drop-drop 1 place (toks doc))) in
       rw (ep, eq, here, then) (only_is v m d (λ c. sym here ∙ (value_iff t).0 (ap value_tok here ∙ c) ∙ ap Value (sym em)))

@@ -1,5 +1,5 @@
 -- The value to which an attribute is fixed, looked for among the entries. Assumes nothing.
-use Rattle.std.specs.Prelude.{◌≡◌, refl, true, false, ◌&&◌, List, ℕ, ◌+◌, ◌-◌, ◌*◌, ◌≤◌, ◌<◌, leb, eqb, length, drop}
+use Rattle.std.specs.Prelude.{◌≡◌, refl, Option as Answered, Some, None, true, false, ◌&&◌, List, ℕ, ◌+◌, ◌-◌, ◌*◌, ◌≤◌, ◌<◌, leb, eqb, length, drop}
 use Rattle.std.proofs.Common.{sym, ap, ◌∙◌, leb-true}
 use Rattle.std.proofs.Math.Bool.{and-eq-true_iff}
 use Rattle.std.proofs.Math.Option.{Option, none, some}
@@ -10,12 +10,11 @@ use Rattle.paper.specs.Table.{table_length, fixed_at, fixed_part, entries_in, en
 use Rattle.paper.specs.Rules.{fixed_by}
 use Rattle.table_laws.specs.Parts.{table_parts}
 use Rattle.fixed.specs.Places.{entry_at, entries_at, entry_next, count_at, same_entries}
-use Rattle.fixed_values.specs.declared.Fixed.{Fixed}
-use Rattle.fixed_values.specs.declared.Fixed.TheVariants.{Free, To}
 
-abbrev pub value_of : Fixed → Option ℕ
-value_of Free = none
-value_of (To v) = some v
+-- the value that the code answers, as the definitions have it
+abbrev pub value_of : Answered ℕ → Option ℕ
+value_of None = none
+value_of (Some v) = some v
 
 -- a proper table has its length and few entries
 few_fixed : (t f : List ℕ) → proper_fixed t f ≡ true → get_or f 0 0 ≤ most_fixed

@@ -1,5 +1,5 @@
 -- A group's answer with what it leaves, as the outcome of item 9. Assumes nothing.
-use Rattle.std.specs.Prelude.{◌≡◌, refl, Bool, true, false, not, List, ◌++◌, ℕ, ◌+◌, ◌-◌, ◌≤◌, ◌<◌, max, pos, ◌-ℤ◌, length, take, drop, replicate}
+use Rattle.std.specs.Prelude.{◌≡◌, refl, Bool, true, false, not, List, ◌++◌, ℕ, ◌+◌, ◌-◌, ◌≤◌, ◌<◌, max, pos, ◌-ℤ◌, length, take, drop, replicate, Ok, Err}
 use Rattle.std.proofs.Common.{sym, ap, ap₂, ◌∙◌, inl, inr, arith, zero-add, drop-drop, length-take-le}
 use borrow.Author.Tests.{le-leb, lt-leb, ne_eqb, not-true, not-false}
 use Rattle.std.proofs.Math.Seq.{paste, drop-append-add}
@@ -17,17 +17,18 @@ use Rattle.paper.specs.Groups.{Work, worked, GroupOutcome, not_begun, verdict, r
 use Rattle.group_laws.specs.Worked.{shape_alone, Reached, worked_told, longest_most, shape_after}
 use Rattle.group_laws.specs.Second.{grows}
 use Rattle.edit_list.specs.Left.{Whole, left_all}
-use Rattle.keys.specs.declared.Fault.{Fault}
-use Rattle.working.specs.declared.Worked.{Worked}
-use Rattle.working.specs.Working.{Came}
+use Rattle.paper.specs.declared.Refusal.{Refusal}
+use Rattle.paper.specs.Codes.{number_of}
+use Rattle.working.specs.declared.Stopped.{Stopped}
+use Rattle.working.specs.Working.{Came, some_number}
 use Rattle.groups.specs.declared.Grouped.{Grouped}
 
 -- with both buffers
 abbrev pub outcome_of : Grouped → (buffer second : List ℕ) → GroupOutcome
 outcome_of r b s = record { number = r.number; place = r.place; used = r.used; change = r.change; which = r.which; buffer = b; second = s }
 
-abbrev pub refusal : (number place used which : ℕ) → Grouped
-refusal number place used which = record { number = number; place = place; used = used; change = pos 0; which = which }
+abbrev pub refusal_of : (number place used which : ℕ) → Grouped
+refusal_of number place used which = record { number = number; place = place; used = used; change = pos 0; which = which }
 
 -- ---- the starting document, put into the second buffer
 
@@ -73,12 +74,12 @@ module _ (buffer : List ℕ) (used : ℕ) (second : List ℕ) (s : shape_of buff
 -- ---- the edits, worked
 
 -- the edits of the list, and what they came to
-pub record Ran (buffer : List ℕ) (used : ℕ) (list second : List ℕ) (w : Worked) (after : List ℕ) : Type 0 where
+pub record Ran (buffer : List ℕ) (used : ℕ) (list second : List ℕ) (n x e : ℕ) (after : List ℕ) : Type 0 where
   pub es : List Request
   pub splits : split_list list ≡ edits es
-  pub number : w.number ≡ (worked (length buffer) 1 used (take used buffer) es).number
-  pub which : w.which ≡ (worked (length buffer) 1 used (take used buffer) es).which
-  pub ends : w.used ≡ length (worked (length buffer) 1 used (take used buffer) es).doc
+  pub number : n ≡ (worked (length buffer) 1 used (take used buffer) es).number
+  pub which : x ≡ (worked (length buffer) 1 used (take used buffer) es).which
+  pub ends : e ≡ length (worked (length buffer) 1 used (take used buffer) es).doc
   pub holds : after ≡ reached_in second (worked (length buffer) 1 used (take used buffer) es)
 
 module _ (table buffer : List ℕ) (used : ℕ) (list second : List ℕ) (s : shape_of buffer used ≡ true) (room : length buffer ≤ length second) where
@@ -96,79 +97,85 @@ module _ (table buffer : List ℕ) (used : ℕ) (list second : List ℕ) (s : sh
     all_in_form : work.number ≡ 0 → Reached (length buffer) (take used buffer) es work
     all_in_form z = elim (worked_told (length buffer) 1 used (take used buffer) es) [ inl r ↦ r | inr r ↦ absurd (r.refused z) ]
 
-  pub ran : 0 ≡ fault_of (split_list list) → {start : List ℕ} → start ≡ paste second 0 (drop 0 buffer) used
-      → {w : Worked} {after : List ℕ} → Came start (length buffer) used list w after → Ran buffer used list second w after
-  ran z {start} e {w} {after} c =
-      let l : Whole list = left_all list z in
-      let held = start_holds buffer used second s room e in
-      let (n, x, u, b) = rw held at (c.told l.all l.splits) in
-      record {
-        es = l.all;
-        splits = l.splits;
-        number = n;
-        which = x;
-        ends = u;
-        holds = b ∙ reached_over buffer used second s room e (work l.all) (grown l.all);
-      }
-    where
-      grown : (es : List Request) → used ≤ (work es).longest
-      grown es = grows (length buffer) 1 used (take used buffer) es
+  module _ (z : 0 ≡ fault_of (split_list list)) {start : List ℕ} (e : start ≡ paste second 0 (drop 0 buffer) used) where
+    ran : {n x m : ℕ} {after : List ℕ} → ((es : List Request) → split_list list ≡ edits es → let w : Work = worked (length buffer) 1 used (take used start) es in
+        (n ≡ w.number) × (x ≡ w.which) × (m ≡ length w.doc) × (after ≡ reached_in start w)) → Ran buffer used list second n x m after
+    ran told =
+        let l : Whole list = left_all list z in
+        let held = start_holds buffer used second s room e in
+        let (n, x, u, b) = rw held at (told l.all l.splits) in
+        record {
+          es = l.all;
+          splits = l.splits;
+          number = n;
+          which = x;
+          ends = u;
+          holds = b ∙ reached_over buffer used second s room e (work l.all) (grown l.all);
+        }
+      where
+        grown : (es : List Request) → used ≤ (work es).longest
+        grown es = grows (length buffer) 1 used (take used buffer) es
 
-  module _ {w : Worked} {after : List ℕ} (r : Ran buffer used list second w after) where
-    -- a refused edit
-    pub begun_edit : (w.number ≡ 0 → ⊥) → {x : Grouped} → x ≡ refusal w.number 0 used w.which
+    module _ {after : List ℕ} where
+      pub ran_through : {m : ℕ} → Came start (length buffer) used list after (Ok m) → Ran buffer used list second 0 0 m after
+      ran_through c = ran (λ es q. c.told es q)
+
+      pub ran_into : {q : Stopped} → Came start (length buffer) used list after (Err q) → Ran buffer used list second (number_of q.refusal) q.which q.used after
+      ran_into c = ran (λ es k. c.told es k)
+
+  -- a refused edit
+  pub begun_edit : (q : Refusal) {x m : ℕ} {after : List ℕ} → Ran buffer used list second (number_of q) x m after → {g : Grouped} → g ≡ refusal_of (number_of q) 0 used x
+      → outcome_of g buffer after ≡ group_by (of_table table) buffer used second (split_list list)
+  begun_edit q r e =
+      let bad = ne_eqb (work r.es).number 0 (λ z. some_number q (r.number ∙ z)) in
+      rw (e, r.number, r.which, r.holds) (rw (bad, bad) at (by_edits r.es r.splits))
+
+  module _ {end : ℕ} {after : List ℕ} (r : Ran buffer used list second 0 0 end after) where
+    end_is : Reached (length buffer) (take used buffer) r.es (work r.es)
+    end_is = all_in_form r.es (sym r.number)
+
+    last_shape : shape_of (work r.es).doc (length (work r.es).doc) ≡ true
+    last_shape = rw end_is.reached (shape_after (length buffer) r.es (take used buffer) (shape_alone buffer used s) end_is.in_form)
+
+    pub last_few : end ≤ most_tokens
+    last_few = omega (arith, r.ends, (shaped (work r.es).doc (length (work r.es).doc) last_shape).few)
+
+    pub last_room : end ≤ length buffer
+    last_room = omega (arith, r.ends, bounds r.es)
+
+    pub last_long : end ≤ length after
+    last_long =
+        let (x, y) = bounds r.es in
+        omega (arith, r.ends, ap length r.holds, written_length second (work r.es).longest (work r.es).doc (omega arith) (omega arith))
+
+    last_held : take end after ≡ (work r.es).doc
+    last_held = ap₂ take r.ends r.holds ∙ written_take second (work r.es).longest (work r.es).doc
+
+    judged_is : {j : ℕ × ℕ} → j ≡ judge (of_table table) whole (toks (take end after)) → verdict (of_table table) (work r.es) ≡ j
+    judged_is e = rw end_is.number (ap (λ l. judge (of_table table) whole (toks l)) (sym last_held) ∙ sym e)
+
+    pub begun_fault : (q : Refusal) {place : ℕ} → (number_of q, place) ≡ judge (of_table table) whole (toks (take end after)) → {x : Grouped} → x ≡ refusal_of (number_of q) place used 0
         → outcome_of x buffer after ≡ group_by (of_table table) buffer used second (split_list list)
-    begun_edit n e =
-        let bad = ne_eqb (work r.es).number 0 (λ z. n (r.number ∙ z)) in
-        rw (e, r.number, r.which, r.holds) (rw (bad, bad) at (by_edits r.es r.splits))
+    begun_fault q {place} ef e =
+        ap (λ y. outcome_of y buffer after) e
+        ∙ ap₂ (λ k l. outcome_of (refusal_of (number_of q) place used k) buffer l) (sym end_is.which) r.holds
+        ∙ (rw (judged_is ef, ne_eqb (number_of q) 0 (some_number q)) at (by_edits r.es r.splits))
 
-    module _ (z : w.number ≡ 0) where
-      end_is : Reached (length buffer) (take used buffer) r.es (work r.es)
-      end_is = all_in_form r.es (sym r.number ∙ z)
-
-      last_shape : shape_of (work r.es).doc (length (work r.es).doc) ≡ true
-      last_shape = rw end_is.reached (shape_after (length buffer) r.es (take used buffer) (shape_alone buffer used s) end_is.in_form)
-
-      pub last_few : w.used ≤ most_tokens
-      last_few = omega (arith, r.ends, (shaped (work r.es).doc (length (work r.es).doc) last_shape).few)
-
-      pub last_room : w.used ≤ length buffer
-      last_room = omega (arith, r.ends, bounds r.es)
-
-      pub last_long : w.used ≤ length after
-      last_long =
-          let (x, y) = bounds r.es in
-          omega (arith, r.ends, ap length r.holds, written_length second (work r.es).longest (work r.es).doc (omega arith) (omega arith))
-
-      last_held : take w.used after ≡ (work r.es).doc
-      last_held = ap₂ take r.ends r.holds ∙ written_take second (work r.es).longest (work r.es).doc
-
-      judged_is : {f : Fault} → (f.number, f.place) ≡ judge (of_table table) whole (toks (take w.used after)) → verdict (of_table table) (work r.es) ≡ (f.number, f.place)
-      judged_is e = rw end_is.number (ap (λ l. judge (of_table table) whole (toks l)) (sym last_held) ∙ sym e)
-
-      module _ {f : Fault} (ef : (f.number, f.place) ≡ judge (of_table table) whole (toks (take w.used after))) where
-        pub begun_fault : (f.number ≡ 0 → ⊥) → {x : Grouped} → x ≡ refusal f.number f.place used 0
-            → outcome_of x buffer after ≡ group_by (of_table table) buffer used second (split_list list)
-        begun_fault n e =
-            ap (λ y. outcome_of y buffer after) e
-            ∙ ap₂ (λ k l. outcome_of (refusal f.number f.place used k) buffer l) (sym end_is.which) r.holds
-            ∙ (rw (judged_is ef, ne_eqb f.number 0 n) at (by_edits r.es r.splits))
-
-        pub begun_done : f.number ≡ 0 → {x : Grouped} {new : List ℕ} → new ≡ written buffer used (take w.used after)
-            → x ≡ record { number = 0; place = 0; used = w.used; change = pos w.used -ℤ pos used; which = 0 }
-            → outcome_of x new after ≡ group_by (of_table table) buffer used second (split_list list)
-        begun_done z en e =
-            rw (e, en, last_held, r.ends, r.holds) (rw (judged_is ef, z) at (by_edits r.es r.splits))
+    pub begun_done : (0, 0) ≡ judge (of_table table) whole (toks (take end after)) → {x : Grouped} {new : List ℕ} → new ≡ written buffer used (take end after)
+        → x ≡ record { number = 0; place = 0; used = end; change = pos end -ℤ pos used; which = 0 }
+        → outcome_of x new after ≡ group_by (of_table table) buffer used second (split_list list)
+    begun_done ef en e =
+        rw (e, en, last_held, r.ends, r.holds) (rw (judged_is ef) at (by_edits r.es r.splits))
 
 -- ---- the call
 
 module _ (table buffer : List ℕ) (used : ℕ) (list second : List ℕ) {y : Bool} (ey : y ≡ proper table) where
-  pub group_table : {x : Grouped} → not y ≡ true → x ≡ refusal 13 0 used 0 → outcome_of x buffer second ≡ group table buffer used list second
+  pub group_table : {x : Grouped} → not y ≡ true → x ≡ refusal_of 13 0 used 0 → outcome_of x buffer second ≡ group table buffer used list second
   unfolding group
   group_table h e = rw (← ey, not-true y h, e)
 
   module _ (h : not y ≡ false) {z : Bool} (ez : z ≡ shape_of buffer used) where
-    pub group_shape : {x : Grouped} → not z ≡ true → x ≡ refusal 4 0 used 0 → outcome_of x buffer second ≡ group table buffer used list second
+    pub group_shape : {x : Grouped} → not z ≡ true → x ≡ refusal_of 4 0 used 0 → outcome_of x buffer second ≡ group table buffer used list second
     unfolding group
     group_shape g e = rw (← ey, not-false y h, ← ez, not-true z g, e)
 
@@ -182,10 +189,10 @@ module _ (table buffer : List ℕ) (used : ℕ) (list second : List ℕ) {y : Bo
         by_fault (fault k) e d = rw e
         by_fault (edits l) e d = absurd (d e)
 
-        pub group_list : {x : Grouped} → (n ≡ 0 → ⊥) → x ≡ refusal n 0 used 0 → outcome_of x buffer second ≡ group table buffer used list second
+        pub group_list : {x : Grouped} → (n ≡ 0 → ⊥) → x ≡ refusal_of n 0 used 0 → outcome_of x buffer second ≡ group table buffer used list second
         group_list d e = rw e (by_fault (split_list list) en d ∙ sym within)
 
-        pub group_short : {x : Grouped} → n ≡ 0 → length second < length buffer → x ≡ refusal 5 0 used 0
+        pub group_short : {x : Grouped} → n ≡ 0 → length second < length buffer → x ≡ refusal_of 5 0 used 0
             → outcome_of x buffer second ≡ group table buffer used list second
         group_short d l e =
             let it : Whole list = left_all list (sym d ∙ en) in

@@ -6,16 +6,18 @@
 #![tactic(auto)]
 
 ghost use Rattle.std.specs.Prelude.{◌≡◌, true, ◌≤◌, length};
+ghost use Rattle.paper.specs.Codes.{number_of};
 ghost use Rattle.paper.specs.Shape.{shape_of};
 ghost use Rattle.paper.specs.Table.{proper};
 ghost use Rattle.paper.specs.Rules.{of_table};
 ghost use Rattle.paper.specs.Lists.{split_list, fault_of};
 ghost use Rattle.paper.specs.Groups.{group_by, group};
-ghost use Rattle.groups.specs.Outcomes.{outcome_of, refusal};
+ghost use Rattle.groups.specs.Outcomes.{outcome_of, refusal_of};
 
-use copying::copy_tokens;
+use copying::copy;
 use edit_list::list_fault;
 use judge::judged_whole;
+use paper::Refusal;
 use working::work;
 use written::{change_of, write};
 
@@ -30,11 +32,11 @@ pub struct Grouped {
 }
 
 // A refusal: the old length, and change 0.
-fn refused(number: u32, place: u32, used: usize, which: u32) -> Grouped
-    ensures { result ≡ refusal number place used which }
+fn refused(refusal: Refusal, place: u32, used: usize, which: u32) -> Grouped
+    ensures { result ≡ refusal_of (number_of refusal) place used which }
 {
     Grouped {
-        number,
+        number: refusal.number(),
         place,
         used,
         change: 0,
@@ -48,17 +50,15 @@ fn begun(table: &[u64], doc: &mut [u32], used: usize, list: &[u32], second: &mut
     requires { (proper table.now ≡ true) × (shape_of doc.old used ≡ true) × (0 ≡ fault_of (split_list list.now)) × (length doc.old ≤ length second.old) }
     ensures { outcome_of result doc.new second.new ≡ group_by (of_table table.now) doc.old used second.old (split_list list.now) }
 {
-    copy_tokens(second, 0, doc, 0, used);
-    let w = work(second, doc.len(), used, list);
-    if w.number != paper::DONE {
-        return refused(w.number, 0, used, w.which);
+    copy(second, 0, doc, 0, used);
+    let end = match work(second, doc.len(), used, list) {
+        Ok(end) => end,
+        Err(s) => return refused(s.refusal, 0, used, s.which),
+    };
+    if let Err(fault) = judged_whole(table, &second[..end]) {
+        return refused(fault.refusal, fault.place, used, 0);
     }
-    let end = w.used;
-    let fault = judged_whole(table, second, end);
-    if fault.number != paper::DONE {
-        return refused(fault.number, fault.place, used, 0);
-    }
-    write(doc, used, second, 0, end);
+    write(doc, used, &second[..end], 0);
     Grouped {
         number: paper::DONE,
         place: 0,
@@ -80,17 +80,16 @@ pub fn group(
     ensures { outcome_of result doc.new second.new ≡ group table.now doc.old used list.now second.old }
 {
     if !proper::proper(table) {
-        return refused(paper::TABLE, 0, used, 0);
+        return refused(Refusal::Table, 0, used, 0);
     }
     if !shape::shape(doc, used) {
-        return refused(paper::SHAPE, 0, used, 0);
+        return refused(Refusal::Shape, 0, used, 0);
     }
-    let fault = list_fault(list);
-    if fault != paper::DONE {
-        return refused(fault, 0, used, 0);
+    if let Err(refusal) = list_fault(list) {
+        return refused(refusal, 0, used, 0);
     }
     if second.len() < doc.len() {
-        return refused(paper::ROOM, 0, used, 0);
+        return refused(Refusal::Room, 0, used, 0);
     }
     begun(table, doc, used, list, second)
 }

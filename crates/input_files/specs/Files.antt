@@ -1,6 +1,5 @@
 -- A file as the system answered. Assumes nothing.
-use Rattle.std.specs.Prelude.{◌≡◌, Bool, ◌&&◌, List, ℕ, take, pos}
-use Rattle.std.specs.Int.Signed.{le_z}
+use Rattle.std.specs.Prelude.{◌≡◌, Bool, ◌&&◌, List, ℕ, take}
 use Rattle.io.specs.Counts.{IsPrefixLen}
 use Rattle.input_files.specs.declared.Name.{Name}
 use Rattle.input_files.specs.declared.File.{File}
@@ -12,7 +11,7 @@ pub record Holds (name : Name) (f : File) : Type 0 where
 
 -- it was opened, and no read of it failed
 abbrev pub readable : File → Bool
-readable f = le_z (pos 0) f.opened && le_z (pos 0) f.last
+readable f = f.opened && f.whole
 
 -- the bytes that were read
 abbrev pub front : File → List ℕ

@@ -24,13 +24,12 @@ pub enum Name {
     Edits,
 }
 
-// A file as the system answered: which it is, what its opening answered, what the last reading answered, and the bytes read. An answer is
-// 0, or -1 for an error.
+// A file as the system answered: which it is, whether it was opened, whether it was read with no error, and the bytes read.
 #[derive(Drop)]
 pub struct File {
     pub name: Name,
-    pub opened: i32,
-    pub last: isize,
+    pub opened: bool,
+    pub whole: bool,
     pub len: usize,
     pub bytes: [u8; ROOM],
 }
@@ -42,11 +41,11 @@ struct Opened<F> {
     answer: io::Result<F>,
 }
 
-// How many bytes were read, and what the last reading answered: 0 at the end of the file, or -1.
+// How many bytes were read, and whether no reading failed.
 #[derive(Clone, Copy)]
 struct Reading {
     len: usize,
-    last: isize,
+    whole: bool,
 }
 
 fn room() -> [u8; ROOM]
@@ -74,12 +73,12 @@ fn read_all<R: Read>(file: &mut R, buffer: &mut [u8]) -> Reading
     let mut len = 0;
     while len < buffer.len() {
         match file.read(&mut buffer[len..]) {
-            Ok(0) => return Reading { len, last: 0 },
+            Ok(0) => return Reading { len, whole: true },
             Ok(more) => len += more,
-            Err(_) => return Reading { len, last: -1 },
+            Err(_) => return Reading { len, whole: false },
         }
     }
-    Reading { len, last: 0 }
+    Reading { len, whole: true }
 }
 
 // The file of that name, read.
@@ -94,16 +93,16 @@ pub fn load(rt: &impl Files, name: Name) -> File
             let r = read_all(&mut file, &mut bytes);
             File {
                 name: of,
-                opened: 0,
-                last: r.last,
+                opened: true,
+                whole: r.whole,
                 len: r.len,
                 bytes,
             }
         }
         Err(_) => File {
             name: of,
-            opened: -1,
-            last: -1,
+            opened: false,
+            whole: false,
             len: 0,
             bytes,
         },
@@ -114,5 +113,5 @@ pub fn load(rt: &impl Files, name: Name) -> File
 pub fn was_read(f: &File) -> bool
     ensures { result ≡ readable f.now }
 {
-    (f.opened >= 0) & (f.last >= 0)
+    f.opened & f.whole
 }

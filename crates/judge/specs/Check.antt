@@ -1,5 +1,5 @@
 -- The whole check, from what its parts answer. Assumes nothing.
-use Rattle.std.specs.Prelude.{◌≡◌, refl, Bool, true, false, not, List, ◌∷◌, ℕ, ◌/◌, ◌≤◌, leb, length, take, drop, get_or}
+use Rattle.std.specs.Prelude.{◌≡◌, refl, Bool, true, false, not, List, [], ◌∷◌, ℕ, ◌/◌, ◌≤◌, leb, length, take, drop, get_or}
 use Rattle.std.proofs.Common.{sym, ap, ◌∙◌, arith}
 use Rattle.std.proofs.Math.Bool.{and-eq-true_iff}
 use borrow.Author.Tests.{leb-true, eq-eqb, ne_eqb, not-true, not-false}
@@ -12,21 +12,27 @@ use Rattle.paper.specs.Table.{proper}
 use Rattle.paper.specs.Rules.{of_table}
 use Rattle.paper.specs.Judgement.{Answer, before, element_fault, first, place_of, whole, root_fault, key_fault, judge, checking, check}
 use Rattle.basic_laws.specs.Bools.{clash}
-use Rattle.shape_laws.specs.Ends.{rest_next}
+use Rattle.shape_laws.specs.Ends.{rest_at}
 use Rattle.tokens.specs.Theorems.{start_iff}
-use Rattle.keys.specs.declared.Fault.{Fault}
-use Rattle.judge.specs.Elements.{found, first_in, first_whole}
+use Rattle.paper.specs.declared.Fault.{Fault}
+use Rattle.paper.specs.Codes.{number_of}
+use Rattle.paper_laws.specs.Codes.{stands_first}
+use Rattle.judge.specs.Elements.{first_in, first_whole}
 
 -- ---- the root
 
-module _ (table doc : List ℕ) (used : ℕ) (l : used ≤ length doc) (some : used ≡ 0 → ⊥) {y : Bool} (ey : y ≡ starts (tok_of (get_or doc 0 0))) where
-  next : root_fault (of_table table) (toks (take used doc)) ≡ root_fault (of_table table) (tok_of (get_or doc 0 0) ∷ drop 1 (toks (take used doc)))
-  next = ap (root_fault (of_table table)) (rest_next doc used 0 (omega arith) l)
+pub root_none : (table doc : List ℕ) → length doc ≡ 0 → (0, 0) ≡ root_fault (of_table table) (toks doc)
+root_none table [] e = refl
+root_none table (t ∷ doc) e = absurd (omega arith)
 
-  pub root_unknown : not y ≡ true → (0, 0) ≡ root_fault (of_table table) (toks (take used doc))
+module _ (table doc : List ℕ) (some : length doc ≡ 0 → ⊥) {y : Bool} (ey : y ≡ starts (tok_of (get_or doc 0 0))) where
+  next : root_fault (of_table table) (toks doc) ≡ root_fault (of_table table) (tok_of (get_or doc 0 0) ∷ drop 1 (toks doc))
+  next = ap (root_fault (of_table table)) (rest_at doc 0 (omega arith))
+
+  pub root_unknown : not y ≡ true → (0, 0) ≡ root_fault (of_table table) (toks doc)
   root_unknown n = sym (next ∙ none (tok_of (get_or doc 0 0)) (sym ey ∙ not-true y n))
     where
-      none : (x : Tok) → starts x ≡ false → root_fault (of_table table) (x ∷ drop 1 (toks (take used doc))) ≡ (0, 0)
+      none : (x : Tok) → starts x ≡ false → root_fault (of_table table) (x ∷ drop 1 (toks doc)) ≡ (0, 0)
       none (Start n) s = clash refl s
       none End s = refl
       none (Text n) s = refl
@@ -35,52 +41,47 @@ module _ (table doc : List ℕ) (used : ℕ) (l : used ≤ length doc) (some : u
       none Bad s = refl
 
   module _ (n : not y ≡ false) {r : ℕ} (er : r ≡ get_or doc 0 0 / 8) where
-    named : root_fault (of_table table) (toks (take used doc)) ≡ root_fault (of_table table) (Start r ∷ drop 1 (toks (take used doc)))
+    named : root_fault (of_table table) (toks doc) ≡ root_fault (of_table table) (Start r ∷ drop 1 (toks doc))
     named = rw er (rw ((start_iff (get_or doc 0 0)).0 (sym ey ∙ not-false y n)) at next)
 
-    pub root_same : r ≡ get_or table 1 0 → (0, 0) ≡ root_fault (of_table table) (toks (take used doc))
+    pub root_same : r ≡ get_or table 1 0 → (0, 0) ≡ root_fault (of_table table) (toks doc)
     root_same q = sym (rw (eq-eqb r (get_or table 1 0) q) at named)
 
-    pub root_other : (r ≡ get_or table 1 0 → ⊥) → (10, 0) ≡ root_fault (of_table table) (toks (take used doc))
+    pub root_other : (r ≡ get_or table 1 0 → ⊥) → (10, 0) ≡ root_fault (of_table table) (toks doc)
     root_other q = sym (rw (ne_eqb r (get_or table 1 0) q) at named)
 
 -- ---- the judgement of a document with shape, where the first fault among the elements that are judged is known
 
-abbrev pub judged_with : (table doc : List ℕ) (used : ℕ) → Answer → Answer
-judged_with table doc used elements =
-    before (root_fault (of_table table) (toks (take used doc))) (before elements (key_fault (of_table table) (toks (take used doc))))
+abbrev pub judged_with : (table doc : List ℕ) → Answer → Answer
+judged_with table doc elements = before (root_fault (of_table table) (toks doc)) (before elements (key_fault (of_table table) (toks doc)))
 
-module _ (table doc : List ℕ) (used : ℕ) (f : Fault) {number : ℕ} (er : (number, 0) ≡ root_fault (of_table table) (toks (take used doc))) where
+module _ (table doc : List ℕ) where
   abbrev keys : Answer
-  keys = key_fault (of_table table) (toks (take used doc))
+  keys = key_fault (of_table table) (toks doc)
 
-  abbrev elements : Answer
-  elements = (f.number, f.place)
+  pub with_root : (elements : Answer) (f : Fault) → (number_of f.refusal, f.place) ≡ root_fault (of_table table) (toks doc)
+      → (number_of f.refusal, f.place) ≡ judged_with table doc elements
+  with_root elements f e = stands_first f (before elements keys) ∙ ap (λ a. before a (before elements keys)) e
 
-  pub with_root : (number ≡ 0 → ⊥) → (number, 0) ≡ judged_with table doc used (f.number, f.place)
-  with_root h = found number 0 (before elements keys) h ∙ ap (λ a. before a (before elements keys)) er
+  module _ (er : (0, 0) ≡ root_fault (of_table table) (toks doc)) where
+    after_root : (elements : Answer) → before elements keys ≡ judged_with table doc elements
+    after_root elements = ap (λ a. before a (before elements keys)) er
 
-  module _ (z : number ≡ 0) where
-    after_root : before elements keys ≡ judged_with table doc used (f.number, f.place)
-    after_root = ap (λ k. before (k, 0) (before elements keys)) (sym z) ∙ ap (λ a. before a (before elements keys)) er
+    pub with_element : (elements : Answer) (f : Fault) → (number_of f.refusal, f.place) ≡ elements → (number_of f.refusal, f.place) ≡ judged_with table doc elements
+    with_element elements f e = stands_first f keys ∙ ap (λ a. before a keys) e ∙ after_root elements
 
-    pub with_element : (f.number ≡ 0 → ⊥) → (f.number, f.place) ≡ judged_with table doc used (f.number, f.place)
-    with_element h = found f.number f.place keys h ∙ after_root
-
-    pub with_keys : {r : Fault} → f.number ≡ 0 → (r.number, r.place) ≡ key_fault (of_table table) (toks (take used doc))
-        → (r.number, r.place) ≡ judged_with table doc used (f.number, f.place)
-    with_keys y e = e ∙ ap (λ k. before (k, f.place) keys) (sym y) ∙ after_root
+    pub with_keys : (elements : Answer) {a : Answer} → (0, 0) ≡ elements → a ≡ key_fault (of_table table) (toks doc) → a ≡ judged_with table doc elements
+    with_keys elements z e = e ∙ ap (λ a. before a keys) z ∙ after_root elements
 
 -- judging some places is `judge`
-pub judged_is : (table doc : List ℕ) (used : ℕ) (judged : ℕ → Bool)
-    → judged_with table doc used (first (element_fault (of_table table)) (place_of (of_table table)) judged 0 (toks (take used doc))) ≡ judge (of_table table) judged (toks (take used doc))
+pub judged_is : (table doc : List ℕ) (judged : ℕ → Bool)
+    → judged_with table doc (first (element_fault (of_table table)) (place_of (of_table table)) judged 0 (toks doc)) ≡ judge (of_table table) judged (toks doc)
 unfolding judge
-judged_is table doc used judged = refl
+judged_is table doc judged = refl
 
 -- every element, then the rest
-pub whole_judged : (table doc : List ℕ) (used : ℕ) → used ≤ length doc → {f : Fault} {a : Answer} → (f.number, f.place) ≡ first_in table doc used 0 used
-    → a ≡ judged_with table doc used (f.number, f.place) → a ≡ judge (of_table table) whole (toks (take used doc))
-whole_judged table doc used h ef ea = ea ∙ ap (judged_with table doc used) (ef ∙ first_whole table doc used h) ∙ judged_is table doc used whole
+pub whole_judged : (table doc : List ℕ) {a : Answer} → a ≡ judged_with table doc (first_in table doc 0 (length doc)) → a ≡ judge (of_table table) whole (toks doc)
+whole_judged table doc ea = ea ∙ ap (judged_with table doc) (first_whole table doc) ∙ judged_is table doc whole
 
 -- ---- the check
 

@@ -4,195 +4,147 @@
 // depth. `check` asks nothing of its arguments, and no call writes to what it is lent. Assumes nothing.
 #![tactic(auto)]
 
-ghost use Rattle.std.specs.Prelude.{◌≡◌, true, ◌≤◌, ◌<◌, length, take, drop};
+ghost use Rattle.std.specs.Prelude.{◌≡◌, true, ◌≤◌, ◌<◌, length};
 ghost use Rattle.paper.specs.Basics.{most_tokens};
+ghost use Rattle.paper.specs.Codes.{told};
 ghost use Rattle.paper.specs.Tokens.{toks};
 ghost use Rattle.paper.specs.Table.{proper};
 ghost use Rattle.paper.specs.Rules.{of_table};
 ghost use Rattle.paper.specs.Judgement.{root_fault, judge, whole, check};
 ghost use Rattle.children.specs.Closed.{Closed};
 ghost use Rattle.judge.specs.Elements.{fault_from, kids_from, fault_of, kids_of, Told, first_in};
-ghost use Rattle.judge.specs.Check.{judged_with};
 
 use attributes::attributes;
 use children::content;
-use keys::{Fault, key_fault};
-use stops::Stop;
+use keys::key_fault;
+use paper::{Fault, Refusal};
 use tokens::{is_start, number};
 
-// What is seen of an element: its fault, number 0 for none; and, where it has none, how many children it has.
-#[derive(Clone, Copy)]
-pub struct Seen {
-    pub number: u32,
-    pub place: u32,
-    pub children: u32,
-}
-
-// An element by its name, where its start stands at a place: 7, 8 or 9; 0 and 0 for no fault. 7 and 8 give the start's place, 9 that where
-// its content stops.
-fn fault_from(table: &[u64], e: u32, doc: &[u32], used: usize, closes: &[u32], start: usize) -> Seen
+// An element by its name, where its start stands at a place: how many children it has; or 7, 8 or 9. 7 and 8 give the start's place, 9
+// that where its content stops.
+fn fault_from(
+    table: &[u64],
+    e: u32,
+    doc: &[u32],
+    closes: &[u32],
+    start: usize,
+) -> Result<u32, Fault>
     requires table_value { proper table.now ≡ true }
-    requires closed { Closed doc.now used closes.now }
-    requires used_in_bounds { (used ≤ length doc.now) × (used ≤ most_tokens) × (start < used) }
-    ensures { Told (fault_from table.now e doc.now used start) (kids_from doc.now used start) result }
+    requires closed { Closed doc.now closes.now }
+    requires start_in_bounds { (length doc.now ≤ most_tokens) × (start < length doc.now) }
+    ensures { Told (fault_from table.now e doc.now start) (kids_from doc.now start) result }
 {
     let here = start as u32;
     if e as u64 >= table[0] {
-        return Seen {
-            number: paper::NAME,
+        return Err(Fault {
+            refusal: Refusal::Name,
             place: here,
-            children: 0,
-        };
+        });
     }
     let name = e as usize;
-    let front = attributes(table, name, doc, used, start + 1);
-    if !front.good {
-        return Seen {
-            number: paper::ATTRIBUTES,
+    match attributes(table, name, doc, start + 1) {
+        None => Err(Fault {
+            refusal: Refusal::Attributes,
             place: here,
-            children: 0,
-        };
-    }
-    let walk = content(table, name, doc, used, closes, front.after);
-    let stop = walk.stop;
-    match stop {
-        Stop::Nowhere => Seen {
-            number: 0,
-            place: 0,
-            children: walk.children,
-        },
-        Stop::At(place) => Seen {
-            number: paper::CONTENT,
-            place: place as u32,
-            children: 0,
+        }),
+        Some(after) => match content(table, name, doc, closes, after) {
+            Ok(children) => Ok(children),
+            Err(place) => Err(Fault {
+                refusal: Refusal::Content,
+                place: place as u32,
+            }),
         },
     }
 }
 
-// The element that starts at place i; 0 and 0, and no child, where none does.
-pub fn element_fault(table: &[u64], doc: &[u32], used: usize, closes: &[u32], i: usize) -> Seen
+// The element that starts at place i: how many children it has, or its fault; no child, where none starts.
+pub fn element_fault(table: &[u64], doc: &[u32], closes: &[u32], i: usize) -> Result<u32, Fault>
     requires table_value { proper table.now ≡ true }
-    requires closed { Closed doc.now used closes.now }
-    requires used_in_bounds { (used ≤ length doc.now) × (used ≤ most_tokens) }
-    ensures { Told (fault_of table.now doc.now used i) (kids_of doc.now used i) result }
+    requires closed { Closed doc.now closes.now }
+    requires doc_len_bound { length doc.now ≤ most_tokens }
+    ensures { Told (fault_of table.now doc.now i) (kids_of doc.now i) result }
 {
-    if used <= i {
-        return Seen {
-            number: 0,
-            place: 0,
-            children: 0,
-        };
+    if doc.len() <= i {
+        return Ok(0);
     }
     let t = doc[i];
     if !is_start(t) {
-        return Seen {
-            number: 0,
-            place: 0,
-            children: 0,
-        };
+        return Ok(0);
     }
-    fault_from(table, number(t), doc, used, closes, i)
+    fault_from(table, number(t), doc, closes, i)
 }
 
 // The first fault among the elements that start from place `low` up to `high`, that one not included.
 pub fn first_fault(
     table: &[u64],
     doc: &[u32],
-    used: usize,
     closes: &[u32],
     low: usize,
     high: usize,
-) -> Fault
+) -> Result<(), Fault>
     requires table_value { proper table.now ≡ true }
-    requires closed { Closed doc.now used closes.now }
-    requires used_in_bounds { (used ≤ length doc.now) × (used ≤ most_tokens) × (high ≤ used) }
-    ensures { (result.number, result.place) ≡ first_in table.now doc.now used low high }
+    requires closed { Closed doc.now closes.now }
+    requires high_in_bounds { (length doc.now ≤ most_tokens) × (high ≤ length doc.now) }
+    ensures { told result ≡ first_in table.now doc.now low high }
 {
-    let mut i = low;
-    while i < high {
-        let place = i;
-        i += 1;
-        if !is_start(doc[place]) {
+    for i in low..high {
+        if !is_start(doc[i]) {
             continue;
         }
-        let seen = element_fault(table, doc, used, closes, place);
-        if seen.number != 0 {
-            return Fault {
-                number: seen.number,
-                place: seen.place,
-            };
-        }
+        element_fault(table, doc, closes, i)?;
     }
-    Fault {
-        number: 0,
-        place: 0,
-    }
+    Ok(())
 }
 
-// "the root's name (10, place 0)"; 0 for no fault.
-pub fn root_number(table: &[u64], doc: &[u32], used: usize) -> u32
-    requires { (proper table.now ≡ true) × (used ≤ length doc.now) }
-    ensures { (result, 0) ≡ root_fault (of_table table.now) (toks (take used doc.now)) }
+// "the root's name (10, place 0)"
+pub fn root_fault(table: &[u64], doc: &[u32]) -> Result<(), Fault>
+    requires { proper table.now ≡ true }
+    ensures { told result ≡ root_fault (of_table table.now) (toks doc.now) }
 {
-    if used == 0 {
-        return 0;
+    if doc.len() == 0 {
+        return Ok(());
     }
     let t = doc[0];
     if !is_start(t) {
-        return 0;
+        return Ok(());
     }
     if number(t) as u64 == table[1] {
-        return 0;
+        return Ok(());
     }
-    paper::ROOT
-}
-
-// The judgement of a document with shape, where the first fault among the elements that are judged is given: the root, then that
-// fault, then IDs and references.
-pub fn judged_with(table: &[u64], doc: &[u32], used: usize, elements: Fault) -> Fault
-    requires { (proper table.now ≡ true) × (used ≤ length doc.now) × (used ≤ most_tokens) }
-    ensures { (result.number, result.place) ≡ judged_with table.now doc.now used (elements.number, elements.place) }
-{
-    let root = Fault {
-        number: root_number(table, doc, used),
+    Err(Fault {
+        refusal: Refusal::Root,
         place: 0,
-    };
-    if root.number != 0 {
-        return root;
-    }
-    if elements.number != 0 {
-        return elements;
-    }
-    key_fault(table, doc, used)
+    })
 }
 
 // The judgement of a whole document with shape: the root, every element, IDs and references.
-pub fn judged_whole(table: &[u64], doc: &[u32], used: usize) -> Fault
-    requires { (proper table.now ≡ true) × (used ≤ length doc.now) × (used ≤ most_tokens) }
-    ensures { (result.number, result.place) ≡ judge (of_table table.now) whole (toks (take used doc.now)) }
+pub fn judged_whole(table: &[u64], doc: &[u32]) -> Result<(), Fault>
+    requires { (proper table.now ≡ true) × (length doc.now ≤ most_tokens) }
+    ensures { told result ≡ judge (of_table table.now) whole (toks doc.now) }
 {
+    root_fault(table, doc)?;
     let mut closes = [0u32; paper::MOST_TOKENS];
-    closing::closes(doc, used, &mut closes);
-    let elements = first_fault(table, doc, used, &closes, 0, used);
-    judged_with(table, doc, used, elements)
+    closing::closes(doc, &mut closes);
+    first_fault(table, doc, &closes, 0, doc.len())?;
+    key_fault(table, doc)
 }
 
-// The check of a document; 0 and 0: it is valid. "Order: table proper (13); shape (4); the root's name (10, place 0); then elements by rising start place
+// The check of a document. "Order: table proper (13); shape (4); the root's name (10, place 0); then elements by rising start place
 // [..] (7, 8, 9) [..] Then an ID value met earlier as an ID (11 [..]); then a reference value that is no ID in the document (12 [..])."
-pub fn check(table: &[u64], doc: &[u32], used: usize) -> Fault
-    ensures { (result.number, result.place) ≡ check table.now doc.now used }
+pub fn check(table: &[u64], doc: &[u32], used: usize) -> Result<(), Fault>
+    ensures { told result ≡ check table.now doc.now used }
 {
     if !proper::proper(table) {
-        return Fault {
-            number: paper::TABLE,
+        return Err(Fault {
+            refusal: Refusal::Table,
             place: 0,
-        };
+        });
     }
     if !shape::shape(doc, used) {
-        return Fault {
-            number: paper::SHAPE,
+        return Err(Fault {
+            refusal: Refusal::Shape,
             place: 0,
-        };
+        });
     }
-    judged_whole(table, doc, used)
+    judged_whole(table, &doc[..used])
 }

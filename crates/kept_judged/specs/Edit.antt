@@ -5,7 +5,7 @@ use Rattle.std.proofs.Common.{◌∙◌, arith}
 use Prim.Native.Nat.{ℕ, ◌+◌, ◌-◌, ◌/◌, ◌≤◌}
 use Rattle.std.proofs.Math.ListN.{length}
 use Rattle.std.proofs.lemmas.List.{length-map}
-use Rattle.std.proofs.Math.Seq.{length-take-le}
+use Rattle.std.proofs.Math.Seq.{take-take, length-take-le}
 use Rattle.paper.specs.Basics.{most_tokens}
 use Rattle.paper.specs.declared.Tok.{Tok}
 use Rattle.paper.specs.declared.Tok.TheVariants.{Start, End, Text, Attr, Value, Bad}
@@ -22,20 +22,18 @@ use Rattle.shape_laws.specs.Shaped.{shaped}
 use Rattle.shape_laws.specs.Widths.{Comes}
 use Rattle.shape_laws.specs.EditJudged.{Asked, form_iff, allowed_by, coming_toks, edited_toks}
 use Rattle.form.specs.declared.Form.{Form}
-use Rattle.form.specs.Form.{Formed}
+use Rattle.form.specs.Form.{InForm}
 use Rattle.form.specs.Size.{size_is}
 use Rattle.edits.proofs.Outcomes.{ready_few, ready_long, ready_within, ready_comes}
 use Rattle.kept_laws.specs.Read.{Names, Reads, read_by}
 use Rattle.kept_keys.specs.Follow.{cut_of, Change}
 
--- the edited tokens are the first of new; by the name of the element at its place, the edit is a change
-pub record Edit (table doc : List ℕ) (used place : ℕ) (new : List ℕ) (f : Form) : Type 0 where
-  pub change : (e : ℕ) → Names e place (toks (take used doc)) → Change (of_table table) (take used doc) (take f.used new) f.at f.coming e
-  pub comes : Comes (drop f.at (toks (take (f.at + f.coming) new)))
-  pub in_doc : used ≤ length doc
-  pub in_new : f.used ≤ length new
-  pub few : f.used ≤ most_tokens
-  pub within : f.at + f.coming ≤ f.used
+-- by the name of the element at its place, the edit is a change
+pub record Edit (table doc : List ℕ) (place : ℕ) (new : List ℕ) (at coming : ℕ) : Type 0 where
+  pub change : (e : ℕ) → Names e place (toks doc) → Change (of_table table) doc new at coming e
+  pub comes : Comes (drop at (toks (take (at + coming) new)))
+  pub few : length new ≤ most_tokens
+  pub within : at + coming ≤ length new
 
 -- ---- the name at a place
 
@@ -61,43 +59,44 @@ module _ (op place : ℕ) (piece buf : List ℕ) (used : ℕ) (table : List ℕ)
   abbrev d : List Tok
   d = toks (take used buf)
 
-  pub edit_in_form : {r : Form} {after : List ℕ} → Formed (length buf) q (take used buf) r after → r.number ≡ 0 → Edit table buf used place after r
+  pub edit_in_form : {r : Form} {after : List ℕ} → InForm (length buf) q (take used buf) after r → Edit table (take used buf) place (take r.used after) r.at r.coming
   unfolding edited
-  edit_in_form {r} {after} f z =
+  edit_in_form {r} {after} f =
       let s = shaped buf used sh in
-      let a : Asked (length buf) q (take used buf) = (form_iff (length buf) q (take used buf)).0 (sym f.number ∙ z) in
+      let a : Asked (length buf) q (take used buf) = (form_iff (length buf) q (take used buf)).0 f.none in
       let at : ℕ = splice_at op place (toks piece) d in
       let cut : ℕ = splice_cut op place (toks piece) d in
       let ok : Allowed d at cut (coming op (toks piece)) = allowed_by d (toks piece) s.one op place a.operation a.piece a.place in
       let inner : at + cut ≤ length d = allowed_within d s.one ok in
       let u : length d ≡ used = length_toks buf used s.long in
-      let size : length (edited q (take used buf)) ≡ used - cut + length (coming op piece) = size_is buf used at cut (coming op piece) (omega arith) s.long in
-      let long : r.used ≤ length after = ready_long op place piece buf used sh f z in
+      let w : length (take used buf) ≡ used = length-take-le used buf s.long in
+      let size : length (edited q (take used buf)) ≡ used - cut + length (coming op piece)
+      = size_is (take used buf) at cut (coming op piece) (omega (arith, inner, u, w)) ∙ ap (λ k. k - cut + length (coming op piece)) w in
+      let long : r.used ≤ length after = ready_long op place piece buf used sh f in
       let old : length (take used buf) ≡ used = length-take-le used buf s.long in
       let new : length (take r.used after) ≡ r.used = length-take-le r.used after long in
-      let same : cut_of (take used buf) (take r.used after) r.coming ≡ cut = omega (arith, old, new, size, f.size z, f.come z, inner, u) in
-      let few : r.used ≤ most_tokens = ready_few op place piece buf used sh f z in
+      let same : cut_of (take used buf) (take r.used after) r.coming ≡ cut = omega (arith, old, new, size, f.size, f.come, inner, u) in
+      let few : r.used ≤ most_tokens = ready_few op place piece buf used sh f in
       let reads : (is : ℕ → ℕ → Bool) (e : ℕ) → Names e place d → Reads is d e at cut (coming op (toks piece))
       = λ is e names. read_by is d (toks piece) s.one e op place a.operation a.piece a.place names in
       let moved : (P : ℕ → ℕ → Type 0) → P at cut → P r.at (cut_of (take used buf) (take r.used after) r.coming)
-      = λ P x. subst (λ i. P i (cut_of (take used buf) (take r.used after) r.coming)) (sym (f.place z)) (subst (P at) (sym same) x) in
+      = λ P x. subst (λ i. P i (cut_of (take used buf) (take r.used after) r.coming)) (sym f.place) (subst (P at) (sym same) x) in
       record {
         change = λ e names. record {
           piece = coming op (toks piece);
           one = s.one;
           sound = k;
           allowed = moved (λ i n. Allowed d i n (coming op (toks piece))) ok;
-          after = ap toks (f.tokens z) ∙ edited_toks q (take used buf)
+          after = ap toks (f.tokens) ∙ edited_toks q (take used buf)
               ∙ moved (λ i n. splice at cut (coming op (toks piece)) d ≡ splice i n (coming op (toks piece)) d) refl;
-          comes_so = sym (f.come z ∙ sym (length-map (coming op piece) tok_of) ∙ ap length (coming_toks q (take used buf)));
+          comes_so = sym (f.come ∙ sym (length-map (coming op piece) tok_of) ∙ ap length (coming_toks q (take used buf)));
           old = omega (arith, old, s.few);
           few = omega (arith, new, few);
           ids = moved (λ i n. Reads (is_id (of_table table)) d e i n (coming op (toks piece))) (reads (is_id (of_table table)) e names);
           refs = moved (λ i n. Reads (is_ref (of_table table)) d e i n (coming op (toks piece))) (reads (is_ref (of_table table)) e names);
         };
-        comes = ready_comes op place piece buf used sh f z;
-        in_doc = s.long;
-        in_new = long;
-        few = few;
-        within = ready_within op place piece buf used sh f z;
+        comes = subst (λ l. Comes (drop r.at (toks l))) (sym (take-take (r.at + r.coming) r.used after (ready_within op place piece buf used sh f)))
+            (ready_comes op place piece buf used sh f);
+        few = omega (arith, new, few);
+        within = omega (arith, new, ready_within op place piece buf used sh f);
       }

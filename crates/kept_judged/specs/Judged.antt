@@ -1,23 +1,22 @@
 -- What the judgement of an edited document gives, by what is kept of IDs and references. Assumes nothing.
-use Rattle.std.specs.Prelude.{◌≡◌, refl, Bool, true, false, cond, List, [], ◌∷◌, map, ℕ, zero, suc, ◌/◌, length, take, get_or}
-use Rattle.std.proofs.Common.{sym, ap, ◌∙◌, arith, eqb-true, length-take-le}
+use Rattle.std.specs.Prelude.{◌≡◌, refl, Result, Ok, Err, Bool, true, false, cond, List, [], ◌∷◌, map, ℕ, zero, suc, ◌/◌, get_or}
+use Rattle.std.proofs.Common.{sym, ap, ◌∙◌, arith, eqb-true}
 use Rattle.std.proofs.lemmas.Bool.{eqb-false}
 use Rattle.paper.specs.Basics.{elem}
 use Rattle.paper.specs.declared.Tok.{Tok}
-use Rattle.paper.specs.Tokens.{toks}
+use Rattle.paper.specs.Tokens.{toks, touched}
 use Rattle.paper.specs.Rules.{Rules, of_table}
-use Rattle.paper.specs.Judgement.{Answer, or_else, repeated, dangling, ids_of, refs_of, value_in, key_fault}
-use Rattle.form.specs.declared.Form.{Form}
-use Rattle.keys.specs.declared.Fault.{Fault}
-use Rattle.touched.specs.declared.Finding.{Finding}
-use Rattle.touched.specs.Judged.{Elements, Found, found_elements, found_keys, found_done}
+use Rattle.paper.specs.Judgement.{Answer, or_else, repeated, dangling, ids_of, refs_of, value_in, key_fault, judge}
+use Rattle.paper.specs.declared.Fault.{Fault}
+use Rattle.paper.specs.Codes.{number_of}
+use Rattle.touched.specs.Judged.{Elements, Found, found_keys}
 use Rattle.kept_keys.specs.Follow.{Keeps, Change, Followed}
 use Rattle.kept_judged.specs.Edit.{Edit, names_at}
 
 -- "Then the edited document is judged as above"; where it has no fault, what is kept is that of the edited document
-pub record FoundKept (table new : List ℕ) (f : Form) (field counts : List ℕ) (r : Finding) : Type 0 where
-  pub judged : Found table new f.used f.at f.coming r
-  pub keeps : r.number ≡ 0 → Keeps table field counts (toks (take f.used new))
+abbrev pub FoundKept : (table new : List ℕ) (at coming : ℕ) (field counts : List ℕ) → Result ℕ Fault → Type 0
+FoundKept table new at coming field counts (Ok children) = Found table new at coming (Ok children) × Keeps table field counts (toks new)
+FoundKept table new at coming field counts (Err f) = Found table new at coming (Err f)
 
 -- ---- IDs and references without a fault have place 0
 
@@ -39,35 +38,26 @@ keys_none R d e = go (repeated [] (ids_of R d)).0 e
 
 -- ---- the ways out
 
-module _ (table new : List ℕ) (f : Form) {seen : Finding} (s : Elements table new f.used f.at f.coming seen) {field counts : List ℕ} where
-  pub kept_elements : (seen.number ≡ 0 → ⊥) → FoundKept table new f field counts seen
-  kept_elements h = record { judged = found_elements table new f.used f.at f.coming s h; keeps = λ z. absurd (h z) }
+module _ (table new : List ℕ) (at coming : ℕ) {children : ℕ} (s : Elements table new at coming (Ok children)) where
+  abbrev keys : Answer
+  keys = key_fault (of_table table) (toks new)
 
-  module _ (z : seen.number ≡ 0) {y : Bool} (k : Followed table (take f.used new) field counts y) where
-    pub kept_done : y ≡ true → FoundKept table new f field counts (record { number = 0; place = 0; children = seen.children })
-    kept_done e =
-        let R : Rules = of_table table in
-        let d : List Tok = toks (take f.used new) in
-        record {
-          judged = found_done table new f.used f.at f.coming s z {w = record { number = 0; place = 0 }} (keys_none R d (eqb-true (key_fault R d).0 0 (sym k.told ∙ e)));
-          keeps = λ _. k.keeps;
-        }
+  module _ {field counts : List ℕ} {y : Bool} (k : Followed table new field counts y) where
+    pub kept_done : y ≡ true → FoundKept table new at coming field counts (Ok children)
+    kept_done e = (
+      (found_keys table new at coming s.0 (keys_none (of_table table) (toks new) (eqb-true keys.0 0 (sym k.told ∙ e))), s.1),
+      k.keeps,
+    )
 
-    pub kept_fault : y ≡ false → {w : Fault} → (w.number, w.place) ≡ key_fault (of_table table) (toks (take f.used new))
-        → FoundKept table new f field counts (record { number = w.number; place = w.place; children = 0 })
-    kept_fault e {w} ew =
-        let not_none : w.number ≡ 0 → ⊥ = λ n. eqb-false (key_fault (of_table table) (toks (take f.used new))).0 0 (sym k.told ∙ e) (sym (ap (λ (a : Answer). a.0) ew) ∙ n) in
-        record { judged = found_keys table new f.used f.at f.coming s z ew not_none; keeps = λ n. absurd (not_none n) }
+    -- the whole pass finds a fault
+    pub kept_never : y ≡ false → (0, 0) ≡ keys → FoundKept table new at coming field counts (Ok children)
+    kept_never e z = absurd (eqb-false keys.0 0 (sym k.told ∙ e) (sym (ap (λ (a : Answer). a.0) z)))
 
--- ---- the documents, and the change at the name
+  pub kept_fault : (f : Fault) → (number_of f.refusal, f.place) ≡ keys → (number_of f.refusal, f.place) ≡ judge (of_table table) (touched at coming (toks new)) (toks new)
+  kept_fault f e = found_keys table new at coming s.0 e
 
-module _ (table doc : List ℕ) (used place : ℕ) (new : List ℕ) (f : Form) (x : Edit table doc used place new f) where
-  pub doc_part : used ≡ length (take used doc)
-  doc_part = sym (length-take-le used doc x.in_doc)
+-- ---- the change at the name
 
-  pub new_part : f.used ≡ length (take f.used new)
-  new_part = sym (length-take-le f.used new x.in_new)
-
-  pub follow_change : {t e : ℕ} → t ≡ get_or (take used doc) place 0 → e ≡ t / 8
-      → Change (of_table table) (take used doc) (take f.used new) f.at f.coming e
-  follow_change et ee = x.change _ (names_at (take used doc) place et ee)
+pub follow_change : (table doc : List ℕ) (place : ℕ) (new : List ℕ) (at coming : ℕ) → Edit table doc place new at coming → {t e : ℕ} → t ≡ get_or doc place 0 → e ≡ t / 8
+    → Change (of_table table) doc new at coming e
+follow_change table doc place new at coming x et ee = x.change _ (names_at doc place et ee)

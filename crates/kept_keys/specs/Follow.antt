@@ -174,21 +174,21 @@ module _ (table doc new : List ℕ) (at coming element : ℕ) (c : Change (of_ta
     refs_were : (v : ℕ) → get_or counts v 0 ≡ times v (b' ++ r') + times v g'
     refs_were v = k.refs v ∙ ap (times v) (old_values (is_ref R) at cut d) ∙ times_stays v b' g' r'
 
-    pub follow_enough : Enough counts (refs_in table doc (at + cut) from)
+    pub follow_enough : Enough counts (refs_in table (take (at + cut) doc) from)
     follow_enough = record { each = λ v. omega (arith, ap (times v) (went (is_ref R) c.refs), refs_were v) }
 
     -- the references of the edited document are those that were, less those that went and more those that came
-    refs_now : (v : ℕ) → times v (found (is_ref R) 0 0 (toks new)) + times v (refs_in table doc (at + cut) from) ≡ get_or counts v 0 + times v (refs_in table new (at + coming) from)
+    refs_now : (v : ℕ) → times v (found (is_ref R) 0 0 (toks new)) + times v (refs_in table (take (at + cut) doc) from) ≡ get_or counts v 0 + times v (refs_in table (take (at + coming) new) from)
     refs_now v =
         omega (arith, ap (times v) refs_after, times_stays v b' m' r', refs_were v, ap (times v) (went (is_ref R) c.refs), ap (times v) (came (is_ref R) c.refs))
 
-    pub follow_fits : Fits counts (refs_in table doc (at + cut) from) (refs_in table new (at + coming) from)
+    pub follow_fits : Fits counts (refs_in table (take (at + cut) doc) from) (refs_in table (take (at + coming) new) from)
     follow_fits = record {
       each = λ v. omega (arith, refs_now v, times_few v (found (is_ref R) 0 0 (toks new)), found_few (is_ref R) 0 0 (toks new), length-map new tok_of, c.few);
     }
 
     module _ {field₂ counts₂ : List ℕ} {y : Bool}
-        (x : Exchanged field counts (ids_in table doc (at + cut) from) (refs_in table doc (at + cut) from) (ids_in table new (at + coming) from) (refs_in table new (at + coming) from) field₂ counts₂ y) where
+        (x : Exchanged field counts (ids_in table (take (at + cut) doc) from) (refs_in table (take (at + cut) doc) from) (ids_in table (take (at + coming) new) from) (refs_in table (take (at + coming) new) from) field₂ counts₂ y) where
       ids_stay : (v : ℕ) → marked x.field_between v ≡ elem v (b ++ r)
       ids_stay v = x.gone.marks v ∙ ap₂ (λ x y. not x && y) (ap (elem v) (went (is_id R) c.ids)) (k.ids v ∙ ap (elem v) (old_values (is_id R) at cut d))
           ∙ left_out (elem v g) (elem v (b ++ (g ++ r))) (elem v (b ++ r)) (in_stays v b g r once).0 (in_stays v b g r once).1
@@ -218,7 +218,7 @@ module _ (table doc new : List ℕ) (at coming element : ℕ) (c : Change (of_ta
       follow_keeps l = record { long = l; ids = λ v. ids_now v ∙ ap (elem v) (sym ids_after); refs = refs_told }
 
       fresh_is : y ≡ new_in (λ v. elem v (b ++ r)) m
-      fresh_is = x.come.told ∙ new_same (marked x.field_between) (λ v. elem v (b ++ r)) ids_stay (ids_in table new (at + coming) from) ∙ ap (new_in (λ v. elem v (b ++ r))) (came (is_id R) c.ids)
+      fresh_is = x.come.told ∙ new_same (marked x.field_between) (λ v. elem v (b ++ r)) ids_stay (ids_in table (take (at + coming) new) from) ∙ ap (new_in (λ v. elem v (b ++ r))) (came (is_id R) c.ids)
 
       abbrev known : ℕ → Bool
       known v = elem v (b ++ (m ++ r)) || eqb (times v (b' ++ (m' ++ r'))) 0
@@ -226,11 +226,11 @@ module _ (table doc new : List ℕ) (at coming element : ℕ) (c : Change (of_ta
       known_is : (v : ℕ) → settled field₂ counts₂ v ≡ known v
       known_is v = ap₂ (λ i z. i || eqb z 0) (ids_now v) (refs_told v ∙ ap (times v) refs_after)
 
-      module _ {z : Bool} (ez : z ≡ both_settled table doc (at + cut) new (at + coming) from field₂ counts₂) where
+      module _ {z : Bool} (ez : z ≡ both_settled table (take (at + cut) doc) (take (at + coming) new) from field₂ counts₂) where
         settled_is : z ≡ all known (g ++ m')
         settled_is =
-            ez ∙ ap₂ ◌&&◌ (all_same (settled field₂ counts₂) known known_is (ids_in table doc (at + cut) from) ∙ ap (all known) (went (is_id R) c.ids))
-            (all_same (settled field₂ counts₂) known known_is (refs_in table new (at + coming) from) ∙ ap (all known) (came (is_ref R) c.refs))
+            ez ∙ ap₂ ◌&&◌ (all_same (settled field₂ counts₂) known known_is (ids_in table (take (at + cut) doc) from) ∙ ap (all known) (went (is_id R) c.ids))
+            (all_same (settled field₂ counts₂) known known_is (refs_in table (take (at + coming) new) from) ∙ ap (all known) (came (is_ref R) c.refs))
             ∙ sym (all_append known g m')
 
         follow_told : (y && z) ≡ eqb (key_fault R (toks new)).0 0
@@ -256,7 +256,7 @@ module _ (table doc new : List ℕ) (at coming element : ℕ) (c : Change (of_ta
         followed h = record { keeps = follow_keeps (record { words = kf ∙ k.long.words; values = kc ∙ k.long.values }); told = h }
 
         pub follow_twice : not y ≡ true → Followed table new field₂ counts₂ false
-        follow_twice n = followed (sym (ap (λ w. w && both_settled table doc (at + cut) new (at + coming) from field₂ counts₂) (not-true y n)) ∙ follow_told refl)
+        follow_twice n = followed (sym (ap (λ w. w && both_settled table (take (at + cut) doc) (take (at + coming) new) from field₂ counts₂) (not-true y n)) ∙ follow_told refl)
 
-        pub follow_rest : not y ≡ false → {z : Bool} → z ≡ both_settled table doc (at + cut) new (at + coming) from field₂ counts₂ → Followed table new field₂ counts₂ z
+        pub follow_rest : not y ≡ false → {z : Bool} → z ≡ both_settled table (take (at + cut) doc) (take (at + coming) new) from field₂ counts₂ → Followed table new field₂ counts₂ z
         follow_rest n {z} e = followed (sym (ap (λ w. w && z) (not-false y n)) ∙ follow_told e)

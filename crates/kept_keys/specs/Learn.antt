@@ -1,9 +1,8 @@
 -- A document learned: from an empty field and empty counts, they are those of the document. Assumes nothing.
-use Rattle.std.specs.Prelude.{◌≡◌, refl, Bool, false, ◌||◌, List, ℕ, zero, suc, ◌+◌, ◌≤◌, length, take, drop, get_or, replicate}
-use Rattle.std.proofs.Common.{ap, ap₂, ◌∙◌, zero-add, arith}
+use Rattle.std.specs.Prelude.{◌≡◌, refl, Bool, false, ◌||◌, List, ℕ, zero, suc, ◌+◌, ◌≤◌, length, get_or, replicate}
+use Rattle.std.proofs.Common.{ap, ◌∙◌, zero-add, arith}
 use Rattle.std.proofs.Math.Bool.{or-false}
 use Rattle.std.proofs.lemmas.List.{length-map, length-replicate}
-use Rattle.std.proofs.Math.Seq.{take-length}
 use Rattle.paper.specs.Basics.{most_tokens, elem}
 use Rattle.paper.specs.Tokens.{tok_of, toks}
 use Rattle.paper.specs.Rules.{of_table}
@@ -22,23 +21,20 @@ pub record Empty (field counts : List ℕ) : Type 0 where
   pub none_counted : (v : ℕ) → get_or counts v 0 ≡ 0
 
 module _ (table doc : List ℕ) {field counts : List ℕ} (z : Empty field counts) where
-  whole : (is : ℕ → ℕ → Bool) → found is 0 0 (drop 0 (toks (take (length doc) doc))) ≡ found is 0 0 (toks doc)
-  whole is = ap (λ l. found is 0 0 (toks l)) (take-length doc)
-
-  pub learn_room : length doc ≤ most_tokens → Room counts (refs_in table doc (length doc) (from_name 0 0))
+  pub learn_room : length doc ≤ most_tokens → Room counts (refs_in table doc (from_name 0 0))
   learn_room h = record {
     each = λ v.
         let l : List ℕ = found (is_ref (of_table table)) 0 0 (toks doc) in
-        omega (arith, z.none_counted v, ap (times v) (whole (is_ref (of_table table))), times_few v l, found_few (is_ref (of_table table)) 0 0 (toks doc), length-map doc tok_of);
+        omega (arith, z.none_counted v, times_few v l, found_few (is_ref (of_table table)) 0 0 (toks doc), length-map doc tok_of);
   }
 
   pub learn_keeps : {field' counts' : List ℕ} {r : Bool}
-      → Come field counts (ids_in table doc (length doc) (from_name 0 0)) (refs_in table doc (length doc) (from_name 0 0)) field' counts' r
+      → Come field counts (ids_in table doc (from_name 0 0)) (refs_in table doc (from_name 0 0)) field' counts' r
       → length field' ≡ length field → length counts' ≡ length counts → Keeps table field' counts' (toks doc)
   learn_keeps k kf kc = record {
     long = record { words = kf ∙ z.long.words; values = kc ∙ z.long.values };
-    ids = λ v. k.marks v ∙ ap₂ ◌||◌ (ap (elem v) (whole (is_id (of_table table)))) (z.none_marked v) ∙ or-false (elem v (found (is_id (of_table table)) 0 0 (toks doc)));
-    refs = λ v. k.tells v ∙ ap₂ ◌+◌ (z.none_counted v) (ap (times v) (whole (is_ref (of_table table)))) ∙ zero-add (times v (found (is_ref (of_table table)) 0 0 (toks doc)));
+    ids = λ v. k.marks v ∙ ap (λ b. elem v (found (is_id (of_table table)) 0 0 (toks doc)) || b) (z.none_marked v) ∙ or-false (elem v (found (is_id (of_table table)) 0 0 (toks doc)));
+    refs = λ v. k.tells v ∙ ap (λ n. n + times v (found (is_ref (of_table table)) 0 0 (toks doc))) (z.none_counted v) ∙ zero-add (times v (found (is_ref (of_table table)) 0 0 (toks doc)));
   }
 
 -- a field and counts of zeros

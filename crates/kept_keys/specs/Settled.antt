@@ -30,16 +30,16 @@ module _ (R : Rules) (e a : ℕ) {ids r : Bool} where
 abbrev pub settled : (field counts : List ℕ) → ℕ → Bool
 settled field counts v = marked field v || eqb (get_or counts v 0) 0
 
--- those of the token at a walk's place, and those from a walk up to an end, are
+-- those of the token at a walk's place, and those from a walk on, are
 abbrev pub settled_here : (table : List ℕ) → Bool → Walk → ℕ → (field counts : List ℕ) → Bool
 settled_here table ids at t field counts = all (settled field counts) (value_here (of_kind ids (of_table table)) at t)
 
-abbrev pub settled_in : (table : List ℕ) → Bool → (doc : List ℕ) → ℕ → Walk → (field counts : List ℕ) → Bool
-settled_in table ids doc end w field counts = all (settled field counts) (passing (of_kind ids (of_table table)) doc end w)
+abbrev pub settled_in : (table : List ℕ) → Bool → (doc : List ℕ) → Walk → (field counts : List ℕ) → Bool
+settled_in table ids doc w field counts = all (settled field counts) (passing (of_kind ids (of_table table)) doc w)
 
 -- the IDs that went and the references that came are
-abbrev pub both_settled : (table doc : List ℕ) → ℕ → (new : List ℕ) → ℕ → Walk → (field counts : List ℕ) → Bool
-both_settled table doc gone new come w field counts = settled_in table true doc gone w field counts && settled_in table false new come w field counts
+abbrev pub both_settled : (table went came : List ℕ) → Walk → (field counts : List ℕ) → Bool
+both_settled table went came w field counts = settled_in table true went w field counts && settled_in table false came w field counts
 
 module _ (a b : Bool) {s : Bool} (e : s ≡ a) where
   pub settled_not : not s ≡ true → false ≡ (a && b)
@@ -73,26 +73,25 @@ module _ (table : List ℕ) (ids : Bool) (at : Walk) (t : ℕ) (field counts : L
 
 -- ---- the loop: from here on as from the beginning
 
-pub record Settling (table : List ℕ) (ids : Bool) (doc : List ℕ) (end : ℕ) (from : Walk) (field counts : List ℕ) (at : Walk) : Type 0 where
-  pub same : settled_in table ids doc end at field counts ≡ settled_in table ids doc end from field counts
+pub record Settling (table : List ℕ) (ids : Bool) (doc : List ℕ) (from : Walk) (field counts : List ℕ) (at : Walk) : Type 0 where
+  pub same : settled_in table ids doc at field counts ≡ settled_in table ids doc from field counts
 
-pub settling_begin : (table : List ℕ) (ids : Bool) (doc : List ℕ) (end : ℕ) (from : Walk) {field counts : List ℕ} → Settling table ids doc end from field counts from
-settling_begin table ids doc end from = record { same = refl }
+pub settling_begin : (table : List ℕ) (ids : Bool) (doc : List ℕ) (from : Walk) {field counts : List ℕ} → Settling table ids doc from field counts from
+settling_begin table ids doc from = record { same = refl }
 
-module _ (table : List ℕ) (ids : Bool) (doc : List ℕ) (end : ℕ) (from : Walk) {field counts : List ℕ} {at : Walk} (s : Settling table ids doc end from field counts at)
-    (l : end ≤ length doc) where
-  pub settling_end : end ≤ at.place → true ≡ settled_in table ids doc end from field counts
-  settling_end h = ap (all (settled field counts)) (sym (passing_none (of_kind ids (of_table table)) doc end at l h)) ∙ s.same
+module _ (table : List ℕ) (ids : Bool) (doc : List ℕ) (from : Walk) {field counts : List ℕ} {at : Walk} (s : Settling table ids doc from field counts at) where
+  pub settling_end : length doc ≤ at.place → true ≡ settled_in table ids doc from field counts
+  settling_end h = ap (all (settled field counts)) (sym (passing_none (of_kind ids (of_table table)) doc at h)) ∙ s.same
 
-  module _ (h : at.place < end) {t : ℕ} (et : t ≡ get_or doc at.place 0) {y : Bool} (ey : y ≡ settled_here table ids at t field counts) where
-    parts : {to : Walk} → to ≡ behind at (tok_of t) → (y && settled_in table ids doc end to field counts) ≡ settled_in table ids doc end from field counts
+  module _ (h : at.place < length doc) {t : ℕ} (et : t ≡ get_or doc at.place 0) {y : Bool} (ey : y ≡ settled_here table ids at t field counts) where
+    parts : {to : Walk} → to ≡ behind at (tok_of t) → (y && settled_in table ids doc to field counts) ≡ settled_in table ids doc from field counts
     parts {to} e =
-        ap (λ b. b && settled_in table ids doc end to field counts) (ey ∙ ap (λ z. settled_here table ids at z field counts) et)
-        ∙ sym (all_append (settled field counts) (value_here (of_kind ids (of_table table)) at (get_or doc at.place 0)) (passing (of_kind ids (of_table table)) doc end to))
-        ∙ ap (all (settled field counts)) (sym (passing_step (of_kind ids (of_table table)) doc end at l h (e ∙ ap (λ z. behind at (tok_of z)) et))) ∙ s.same
+        ap (λ b. b && settled_in table ids doc to field counts) (ey ∙ ap (λ z. settled_here table ids at z field counts) et)
+        ∙ sym (all_append (settled field counts) (value_here (of_kind ids (of_table table)) at (get_or doc at.place 0)) (passing (of_kind ids (of_table table)) doc to))
+        ∙ ap (all (settled field counts)) (sym (passing_step (of_kind ids (of_table table)) doc at h (e ∙ ap (λ z. behind at (tok_of z)) et))) ∙ s.same
 
-    pub settling_none : not y ≡ true → false ≡ settled_in table ids doc end from field counts
-    settling_none n = ap (λ b. b && settled_in table ids doc end (behind at (tok_of t)) field counts) (sym (not-true y n)) ∙ parts refl
+    pub settling_none : not y ≡ true → false ≡ settled_in table ids doc from field counts
+    settling_none n = ap (λ b. b && settled_in table ids doc (behind at (tok_of t)) field counts) (sym (not-true y n)) ∙ parts refl
 
-    pub settling_more : {to : Walk} → not y ≡ false → to ≡ behind at (tok_of t) → Settling table ids doc end from field counts to
-    settling_more {to} n e = record { same = ap (λ b. b && settled_in table ids doc end to field counts) (sym (not-false y n)) ∙ parts e }
+    pub settling_more : {to : Walk} → not y ≡ false → to ≡ behind at (tok_of t) → Settling table ids doc from field counts to
+    settling_more {to} n e = record { same = ap (λ b. b && settled_in table ids doc to field counts) (sym (not-false y n)) ∙ parts e }

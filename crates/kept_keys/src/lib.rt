@@ -50,21 +50,20 @@ fn is_settled(table: &[u64], ids: bool, at: Walk, t: u32, field: &[u64], counts:
     counts[i] == 0
 }
 
-// All of them are, from the walk up to the end.
+// All of them are, from the walk on.
 fn are_settled(
     table: &[u64],
     ids: bool,
     doc: &[u32],
-    end: usize,
     from: Walk,
     field: &[u64],
     counts: &[u16],
 ) -> bool
-    requires { (proper table.now ≡ true) × (end ≤ length doc.now) × Long field.now counts.now }
-    ensures { result ≡ settled_in table.now ids doc.now end from field.now counts.now }
+    requires { (proper table.now ≡ true) × Long field.now counts.now }
+    ensures { result ≡ settled_in table.now ids doc.now from field.now counts.now }
 {
     let mut at = from;
-    while at.place < end {
+    while at.place < doc.len() {
         let i = at.place;
         let t = doc[i];
         if !is_settled(table, ids, at, t, field, counts) {
@@ -78,21 +77,19 @@ fn are_settled(
 // "Each coming reference has an ID, and no ID that went alone is still referred to."
 fn none_owed(
     table: &[u64],
-    doc: &[u32],
-    gone: usize,
-    new: &[u32],
-    come: usize,
+    went: &[u32],
+    came: &[u32],
     from: Walk,
     field: &[u64],
     counts: &[u16],
 ) -> bool
-    requires { (proper table.now ≡ true) × (gone ≤ length doc.now) × (come ≤ length new.now) × Long field.now counts.now }
-    ensures { result ≡ both_settled table.now doc.now gone new.now come from field.now counts.now }
+    requires { (proper table.now ≡ true) × Long field.now counts.now }
+    ensures { result ≡ both_settled table.now went.now came.now from field.now counts.now }
 {
-    if !are_settled(table, true, doc, gone, from, field, counts) {
+    if !are_settled(table, true, went, from, field, counts) {
         return false;
     }
-    are_settled(table, false, new, come, from, field, counts)
+    are_settled(table, false, came, from, field, counts)
 }
 
 // The IDs and references of a document, in a field and counts that are empty.
@@ -105,7 +102,7 @@ pub fn learn(table: &[u64], doc: &[u32], field: &mut [u64], counts: &mut [u16])
         element: 0,
         attribute: 0,
     };
-    enter(table, doc, doc.len(), front, field, counts);
+    enter(table, doc, front, field, counts);
 }
 
 // "Where the document before has no fault of 11 or 12, the edited one has none exactly if no coming ID was there or comes twice, each
@@ -132,8 +129,10 @@ pub fn follow(
     };
     let gone = at + (doc.len() + coming - new.len());
     let come = at + coming;
-    if !exchange(table, doc, gone, new, come, from, field, counts) {
+    let went = &doc[..gone];
+    let came = &new[..come];
+    if !exchange(table, went, came, from, field, counts) {
         return false;
     }
-    none_owed(table, doc, gone, new, come, from, field, counts)
+    none_owed(table, went, came, from, field, counts)
 }

@@ -4,11 +4,11 @@
 // Field and counts are lent by the caller. Any tokens are taken; the table is a proper one. Assumes nothing.
 #![tactic(auto)]
 
-ghost use Rattle.std.specs.Prelude.{◌≡◌, true, ◌+◌, ◌≤◌, ◌<◌, length, get_or};
+ghost use Rattle.std.specs.Prelude.{◌≡◌, true};
 ghost use Rattle.paper.specs.Table.{proper};
 ghost use Rattle.paper.specs.Rules.{of_table};
 ghost use Rattle.paper.specs.Judgement.{is_id, is_ref};
-ghost use Rattle.key_moves.specs.Moves.{raised, lowered, Gone, Come, value_here, Long, Enough, Room, Fits, Exchanged};
+ghost use Rattle.key_moves.specs.Moves.{Gone, Come, value_here, Long, Enough, Room, Fits, Exchanged};
 ghost use Rattle.key_moves.specs.Turns.{ids_in, refs_in};
 
 use field::{note, unmark};
@@ -17,30 +17,6 @@ use tokens::{is_value, number};
 
 // So many values there are, each with a count.
 pub const VALUES: usize = 65536;
-
-// One reference more to the value, where `is` holds.
-fn raise(counts: &mut [u16], is: bool, v: u32)
-    requires { (v < length counts.old) × (is ≡ true → get_or counts.old v 0 + 1 < 65536) }
-    ensures { counts.new ≡ raised counts.old is v }
-{
-    if !is {
-        return;
-    }
-    let i = v as usize;
-    counts[i] += 1;
-}
-
-// One reference less.
-fn lower(counts: &mut [u16], is: bool, v: u32)
-    requires { (v < length counts.old) × (is ≡ true → 0 < get_or counts.old v 0) }
-    ensures { counts.new ≡ lowered counts.old is v }
-{
-    if !is {
-        return;
-    }
-    let i = v as usize;
-    counts[i] -= 1;
-}
 
 // A token goes: an ID is marked no more, and a reference is counted no more.
 fn take_out(table: &[u64], at: Walk, t: u32, field: &mut [u64], counts: &mut [u16])
@@ -53,7 +29,11 @@ fn take_out(table: &[u64], at: Walk, t: u32, field: &mut [u64], counts: &mut [u1
     }
     let v = number(t);
     unmark(field, is_id(table, at.element, at.attribute), v);
-    lower(counts, is_reference(table, at.element, at.attribute), v);
+    if !is_reference(table, at.element, at.attribute) {
+        return;
+    }
+    let i = v as usize;
+    counts[i] -= 1;
 }
 
 // A token comes: an ID is marked, and a reference counted. The answer: it is no ID that was marked before.
@@ -67,18 +47,22 @@ fn put_in(table: &[u64], at: Walk, t: u32, field: &mut [u64], counts: &mut [u16]
     }
     let v = number(t);
     let met = note(field, is_id(table, at.element, at.attribute), v);
-    raise(counts, is_reference(table, at.element, at.attribute), v);
+    if !is_reference(table, at.element, at.attribute) {
+        return !met;
+    }
+    let i = v as usize;
+    counts[i] += 1;
     !met
 }
 
-// The tokens from the walk up to the end go.
-fn leave(table: &[u64], doc: &[u32], end: usize, from: Walk, field: &mut [u64], counts: &mut [u16])
-    requires table_value { (proper table.now ≡ true) × (end ≤ length doc.now) }
-    requires long { Long field.old counts.old × Enough counts.old (refs_in table.now doc.now end from) }
-    ensures { Gone field.old counts.old (ids_in table.now doc.now end from) (refs_in table.now doc.now end from) field.new counts.new }
+// The tokens from the walk on go.
+fn leave(table: &[u64], doc: &[u32], from: Walk, field: &mut [u64], counts: &mut [u16])
+    requires table_value { proper table.now ≡ true }
+    requires long { Long field.old counts.old × Enough counts.old (refs_in table.now doc.now from) }
+    ensures { Gone field.old counts.old (ids_in table.now doc.now from) (refs_in table.now doc.now from) field.new counts.new }
 {
     let mut at = from;
-    while at.place < end {
+    while at.place < doc.len() {
         let i = at.place;
         let t = doc[i];
         take_out(table, at, t, field, counts);
@@ -86,22 +70,15 @@ fn leave(table: &[u64], doc: &[u32], end: usize, from: Walk, field: &mut [u64], 
     }
 }
 
-// They come. The answer: "no coming ID was there or comes twice".
-pub fn enter(
-    table: &[u64],
-    doc: &[u32],
-    end: usize,
-    from: Walk,
-    field: &mut [u64],
-    counts: &mut [u16],
-) -> bool
-    requires table_value { (proper table.now ≡ true) × (end ≤ length doc.now) }
-    requires long { Long field.old counts.old × Room counts.old (refs_in table.now doc.now end from) }
-    ensures { Come field.old counts.old (ids_in table.now doc.now end from) (refs_in table.now doc.now end from) field.new counts.new result }
+// The tokens from the walk on come. The answer: "no coming ID was there or comes twice".
+pub fn enter(table: &[u64], doc: &[u32], from: Walk, field: &mut [u64], counts: &mut [u16]) -> bool
+    requires table_value { proper table.now ≡ true }
+    requires long { Long field.old counts.old × Room counts.old (refs_in table.now doc.now from) }
+    ensures { Come field.old counts.old (ids_in table.now doc.now from) (refs_in table.now doc.now from) field.new counts.new result }
 {
     let mut at = from;
     let mut fresh = true;
-    while at.place < end {
+    while at.place < doc.len() {
         let i = at.place;
         let t = doc[i];
         fresh = fresh & put_in(table, at, t, field, counts);
@@ -110,21 +87,19 @@ pub fn enter(
     fresh
 }
 
-// The tokens of doc from the walk up to `gone` go, and those of new up to `come` come. The answer: "no coming ID was there or comes twice".
+// The tokens of one document from the walk on go, and those of another come. The answer: "no coming ID was there or comes twice".
 pub fn exchange(
     table: &[u64],
-    doc: &[u32],
-    gone: usize,
-    new: &[u32],
-    come: usize,
+    went: &[u32],
+    came: &[u32],
     from: Walk,
     field: &mut [u64],
     counts: &mut [u16],
 ) -> bool
-    requires table_value { (proper table.now ≡ true) × (gone ≤ length doc.now) × (come ≤ length new.now) }
-    requires long { Long field.old counts.old × Enough counts.old (refs_in table.now doc.now gone from) × Fits counts.old (refs_in table.now doc.now gone from) (refs_in table.now new.now come from) }
-    ensures { Exchanged field.old counts.old (ids_in table.now doc.now gone from) (refs_in table.now doc.now gone from) (ids_in table.now new.now come from) (refs_in table.now new.now come from) field.new counts.new result }
+    requires table_value { proper table.now ≡ true }
+    requires long { Long field.old counts.old × Enough counts.old (refs_in table.now went.now from) × Fits counts.old (refs_in table.now went.now from) (refs_in table.now came.now from) }
+    ensures { Exchanged field.old counts.old (ids_in table.now went.now from) (refs_in table.now went.now from) (ids_in table.now came.now from) (refs_in table.now came.now from) field.new counts.new result }
 {
-    leave(table, doc, gone, from, field, counts);
-    enter(table, new, come, from, field, counts)
+    leave(table, went, from, field, counts);
+    enter(table, came, from, field, counts)
 }

@@ -1,6 +1,6 @@
 -- A walk over the tokens of a document: what is left before it, and the next key. Assumes nothing.
-use Rattle.std.specs.Prelude.{◌≡◌, refl, Bool, true, false, not, ◌&&◌, ◌||◌, List, [], ◌∷◌, ℕ, suc, ◌+◌, ◌-◌, ◌/◌, ◌%◌, ◌≤◌, ◌<◌, ltb, length, take, drop, get_or}
-use Rattle.std.proofs.Common.{sym, ap, ◌∙◌, add-one, arith, lt-ltb, le-ltb, drop_of_length-le}
+use Rattle.std.specs.Prelude.{◌≡◌, refl, Bool, true, false, not, ◌&&◌, ◌||◌, List, [], ◌∷◌, ℕ, suc, ◌+◌, ◌-◌, ◌/◌, ◌%◌, ◌≤◌, ◌<◌, ltb, length, drop, get_or}
+use Rattle.std.proofs.Common.{sym, ap, ◌∙◌, add-one, arith, lt-ltb, le-ltb}
 use Rattle.std.proofs.Math.Bool.{and-eq-true_iff}
 use Rattle.std.proofs.lemmas.Bool.{not-true, not-false}
 use Rattle.paper.specs.Basics.{cons_if}
@@ -10,8 +10,7 @@ use Rattle.paper.specs.Tokens.{tok_of, toks, starts}
 use Rattle.paper.specs.Rules.{of_table}
 use Rattle.paper.specs.Judgement.{is_id, is_ref, values_of}
 use Rattle.basic_laws.specs.Bools.{clash}
-use Rattle.shape_laws.specs.Ends.{rest_next}
-use Rattle.shape_laws.specs.Bridge.{length_toks}
+use Rattle.shape_laws.specs.Ends.{rest_at, rest_past}
 use Rattle.tokens.specs.Sorts.{attr_tok, value_tok}
 use Rattle.tokens.specs.Theorems.{token_cases, start_iff, attr_iff, value_iff}
 use Rattle.key_walk.specs.declared.Walk.{Walk}
@@ -70,8 +69,8 @@ pub pass_one : (w : Walk) (t : Tok) {e a : ℕ} → e ≡ element_after w.elemen
     → record { place = w.place + 1; element = e; attribute = a } ≡ behind w t
 pass_one w t e a = rw (e, a)
 
-pub pass_less : (used : ℕ) (w : Walk) (t : Tok) {to : Walk} → w.place < used → to ≡ behind w t → used - to.place < used - w.place
-pass_less used w t h e = rw e (omega arith)
+pub pass_less : (doc : List ℕ) (w : Walk) (t : Tok) {to : Walk} → w.place < length doc → to ≡ behind w t → length doc - to.place < length doc - w.place
+pass_less doc w t h e = rw e (omega arith)
 
 -- ---- what is left before a walk
 
@@ -84,15 +83,15 @@ abbrev pub value_of : (ℕ → ℕ → Bool) → Walk → Tok → Bool
 value_of is w t = value_tok t && is w.element w.attribute
 
 -- It is the first that is left, if it is one; the others are left behind it.
-pub left_step : (is : ℕ → ℕ → Bool) (doc : List ℕ) (used : ℕ) (w : Walk) → w.place < used → used ≤ length doc
-    → left is (toks (take used doc)) w
+pub left_step : (is : ℕ → ℕ → Bool) (doc : List ℕ) (w : Walk) → w.place < length doc
+    → left is (toks doc) w
     ≡ cons_if (value_of is w (tok_of (get_or doc w.place 0))) (w.place, get_or doc w.place 0 / 8)
-    (left is (toks (take used doc)) (behind w (tok_of (get_or doc w.place 0))))
-left_step is doc used w h l =
-    ap (values_of is w.place w.element w.attribute) (rest_next doc used w.place h l) ∙ rw add-one (cases (get_or doc w.place 0))
+    (left is (toks doc) (behind w (tok_of (get_or doc w.place 0))))
+left_step is doc w h =
+    ap (values_of is w.place w.element w.attribute) (rest_at doc w.place h) ∙ rw add-one (cases (get_or doc w.place 0))
   where
     rest : List Tok
-    rest = drop (suc w.place) (toks (take used doc))
+    rest = drop (suc w.place) (toks doc)
 
     cases : (x : ℕ) → values_of is w.place w.element w.attribute (tok_of x ∷ rest)
         ≡ cons_if (value_of is w (tok_of x)) (w.place, x / 8)
@@ -106,28 +105,27 @@ left_step is doc used w h l =
 abbrev pub onward : Walk → Walk
 onward w = record { place = w.place + 1; element = w.element; attribute = w.attribute }
 
-pub left_value : (is : ℕ → ℕ → Bool) (doc : List ℕ) (used : ℕ) (w : Walk) → w.place < used → used ≤ length doc
+pub left_value : (is : ℕ → ℕ → Bool) (doc : List ℕ) (w : Walk) → w.place < length doc
     → value_tok (tok_of (get_or doc w.place 0)) ≡ true
-    → left is (toks (take used doc)) w
-    ≡ cons_if (is w.element w.attribute) (w.place, get_or doc w.place 0 / 8) (left is (toks (take used doc)) (onward w))
-left_value is doc used w h l e = rw ((value_iff (get_or doc w.place 0)).0 e) at (left_step is doc used w h l)
+    → left is (toks doc) w
+    ≡ cons_if (is w.element w.attribute) (w.place, get_or doc w.place 0 / 8) (left is (toks doc) (onward w))
+left_value is doc w h e = rw ((value_iff (get_or doc w.place 0)).0 e) at (left_step is doc w h)
 
 -- behind the last token nothing is left
-pub left_none : (is : ℕ → ℕ → Bool) (doc : List ℕ) (used : ℕ) (w : Walk) → used ≤ w.place → used ≤ length doc → left is (toks (take used doc)) w ≡ []
-left_none is doc used w h l =
-    ap (values_of is w.place w.element w.attribute) (drop_of_length-le (toks (take used doc)) {i = w.place} (omega (arith, length_toks doc used l)))
+pub left_none : (is : ℕ → ℕ → Bool) (doc : List ℕ) (w : Walk) → length doc ≤ w.place → left is (toks doc) w ≡ []
+left_none is doc w h = ap (values_of is w.place w.element w.attribute) (rest_past doc w.place h)
 
 -- ---- a value at a place
 
-abbrev pub value_at : List ℕ → ℕ → ℕ → Bool
-value_at doc used i = ltb i used && value_tok (tok_of (get_or doc i 0))
+abbrev pub value_at : List ℕ → ℕ → Bool
+value_at doc i = ltb i (length doc) && value_tok (tok_of (get_or doc i 0))
 
-module _ (doc : List ℕ) (used i : ℕ) where
-  pub value_past : used ≤ i → false ≡ value_at doc used i
-  value_past h = rw (le-ltb i used h)
+module _ (doc : List ℕ) (i : ℕ) where
+  pub value_past : length doc ≤ i → false ≡ value_at doc i
+  value_past h = rw (le-ltb i (length doc) h)
 
-  pub value_here_lem : {y : Bool} → i < used → y ≡ value_tok (tok_of (get_or doc i 0)) → y ≡ value_at doc used i
-  value_here_lem h e = rw (lt-ltb i used h) e
+  pub value_here_lem : {y : Bool} → i < length doc → y ≡ value_tok (tok_of (get_or doc i 0)) → y ≡ value_at doc i
+  value_here_lem h e = rw (lt-ltb i (length doc) h) e
 
 -- ---- the next key
 
@@ -144,31 +142,31 @@ module _ (table : List ℕ) (w : Walk) (x : ℕ) {y : Bool} (ey : y ≡ value_to
   key_test n ei er = rw (sym ey ∙ not-false y n, ei, er)
 
 -- between two places of a walk no ID and no reference stands
-pub record Came (table doc : List ℕ) (used : ℕ) (from to : Walk) : Type 0 where
-  pub within : to.place ≤ used
+pub record Came (table doc : List ℕ) (from to : Walk) : Type 0 where
+  pub within : to.place ≤ length doc
   pub onward : from.place ≤ to.place
-  pub ids : left (is_id (of_table table)) (toks (take used doc)) to ≡ left (is_id (of_table table)) (toks (take used doc)) from
-  pub refs : left (is_ref (of_table table)) (toks (take used doc)) to ≡ left (is_ref (of_table table)) (toks (take used doc)) from
+  pub ids : left (is_id (of_table table)) (toks doc) to ≡ left (is_id (of_table table)) (toks doc) from
+  pub refs : left (is_ref (of_table table)) (toks doc) to ≡ left (is_ref (of_table table)) (toks doc) from
 
 -- and at the second one a value does, unless it is behind the last token
-pub record Found (table doc : List ℕ) (used : ℕ) (from to : Walk) : Type 0 where
-  pub came : Came table doc used from to
-  pub value : to.place < used → value_tok (tok_of (get_or doc to.place 0)) ≡ true
+pub record Found (table doc : List ℕ) (from to : Walk) : Type 0 where
+  pub came : Came table doc from to
+  pub value : to.place < length doc → value_tok (tok_of (get_or doc to.place 0)) ≡ true
 
-module _ (table doc : List ℕ) (used : ℕ) (from : Walk) where
-  pub came_none : from.place ≤ used → Came table doc used from from
+module _ (table doc : List ℕ) (from : Walk) where
+  pub came_none : from.place ≤ length doc → Came table doc from from
   came_none h = record { within = h; onward = omega arith; ids = refl; refs = refl }
 
-  module _ {at : Walk} (c : Came table doc used from at) where
-    pub found_none : used ≤ at.place → Found table doc used from at
+  module _ {at : Walk} (c : Came table doc from at) where
+    pub found_none : length doc ≤ at.place → Found table doc from at
     found_none h = record { came = c; value = λ l. absurd (omega arith) }
 
     module _ {y : Bool} (ey : y ≡ key_at table at (tok_of (get_or doc at.place 0))) where
-      pub found_key : y ≡ true → Found table doc used from at
+      pub found_key : y ≡ true → Found table doc from at
       found_key t = record { came = c; value = λ l. ((and-eq-true_iff (value_tok (tok_of (get_or doc at.place 0))) _).0 (sym ey ∙ t)).0 }
 
-      pub came_on : {to : Walk} → at.place < used → used ≤ length doc → y ≡ false → to ≡ behind at (tok_of (get_or doc at.place 0)) → Came table doc used from to
-      came_on {to} h l f et = rw et (record {
+      pub came_on : {to : Walk} → at.place < length doc → y ≡ false → to ≡ behind at (tok_of (get_or doc at.place 0)) → Came table doc from to
+      came_on {to} h f et = rw et (record {
         within = omega arith;
         onward = omega (arith, c.onward);
         ids = sym (step (is_id (of_table table)) neither.0) ∙ c.ids;
@@ -178,8 +176,8 @@ module _ (table doc : List ℕ) (used : ℕ) (from : Walk) where
           t : Tok
           t = tok_of (get_or doc at.place 0)
 
-          step : (is : ℕ → ℕ → Bool) → value_of is at t ≡ false → left is (toks (take used doc)) at ≡ left is (toks (take used doc)) (behind at t)
-          step is e = left_step is doc used at h l ∙ ap (λ b. cons_if b (at.place, get_or doc at.place 0 / 8) (left is (toks (take used doc)) (behind at t))) e
+          step : (is : ℕ → ℕ → Bool) → value_of is at t ≡ false → left is (toks doc) at ≡ left is (toks doc) (behind at t)
+          step is e = left_step is doc at h ∙ ap (λ b. cons_if b (at.place, get_or doc at.place 0 / 8) (left is (toks doc) (behind at t))) e
 
           split : (v i r : Bool) → v && (i || r) ≡ false → ((v && i) ≡ false) × ((v && r) ≡ false)
           split true true r e = clash refl e

@@ -112,23 +112,22 @@ fn is_key(table: &[u64], at: Walk, t: u32) -> bool
 }
 
 // A value stands at the place.
-pub fn is_value_at(doc: &[u32], used: usize, i: usize) -> bool
-    requires { used ≤ length doc.now }
-    ensures { result ≡ value_at doc.now used i }
+pub fn is_value_at(doc: &[u32], i: usize) -> bool
+    ensures { result ≡ value_at doc.now i }
 {
-    if used <= i {
+    if doc.len() <= i {
         return false;
     }
     is_value(doc[i])
 }
 
 // The walk at the next key from where it stands, or behind the last token.
-pub fn next_key(table: &[u64], doc: &[u32], used: usize, from: Walk) -> Walk
-    requires { (proper table.now ≡ true) × (used ≤ length doc.now) × (from.place ≤ used) }
-    ensures { Found table.now doc.now used from result }
+pub fn next_key(table: &[u64], doc: &[u32], from: Walk) -> Walk
+    requires { (proper table.now ≡ true) × (from.place ≤ length doc.now) }
+    ensures { Found table.now doc.now from result }
 {
     let mut at = from;
-    while at.place < used {
+    while at.place < doc.len() {
         let i = at.place;
         let t = doc[i];
         if is_key(table, at, t) {

@@ -5,29 +5,24 @@
 // Assumes nothing.
 #![tactic(auto)]
 
-ghost use Rattle.std.specs.Prelude.{◌≡◌, true, [], ◌+◌, ◌-◌, ◌^◌, ◌≤◌, ◌<◌, length, take};
+ghost use Rattle.std.specs.Prelude.{◌≡◌, true, [], ◌+◌, ◌-◌, ◌^◌, ◌≤◌, ◌<◌, length};
 ghost use Rattle.paper.specs.Basics.{most_tokens};
+ghost use Rattle.paper.specs.Codes.{told};
 ghost use Rattle.paper.specs.Table.{proper};
 ghost use Rattle.paper.specs.Tokens.{tok_of, toks};
 ghost use Rattle.paper.specs.Rules.{of_table};
 ghost use Rattle.paper.specs.Judgement.{is_ref, key_fault};
 ghost use Rattle.field.specs.Field.{Field};
 ghost use Rattle.key_walk.specs.Walk.{value_of};
-ghost use Rattle.keys.specs.Marking.{field_words, fault_of, Begun, noted, refs_left};
+ghost use Rattle.keys.specs.Marking.{field_words, Begun, noted, refs_left};
 ghost use Rattle.keys.specs.Turns.{Owed, Marks};
 ghost use Rattle.keys.specs.Looking.{unmarked};
 ghost use Rattle.keys.specs.Answer.{fault_from};
 
 use field::{WORDS, is_marked, note};
 use key_walk::{Walk, is_id, is_reference, is_value_at, next_key, pass};
+use paper::{Fault, Refusal};
 use tokens::{is_value, number};
-
-// The answer's number and place; 0 and 0: no fault.
-#[derive(Clone, Copy)]
-pub struct Fault {
-    pub number: u32,
-    pub place: u32,
-}
 
 // The references met: so many, the first of them from the walk on.
 #[derive(Clone, Copy)]
@@ -36,21 +31,11 @@ struct Refs {
     count: usize,
 }
 
-// What a pass over the IDs finds: the first that was met earlier, and the references.
+// What a pass over the IDs finds: the first that was met earlier, or the references.
 #[derive(Clone, Copy)]
 struct Marked {
-    fault: Fault,
+    twice: Option<Fault>,
     refs: Refs,
-}
-
-// No fault.
-fn none() -> Fault
-    ensures { result ≡ fault_of 0 0 }
-{
-    Fault {
-        number: 0,
-        place: 0,
-    }
 }
 
 // The references met, once the values of the walk's attribute, up to place i, were passed.
@@ -74,25 +59,25 @@ fn counted(table: &[u64], refs: Refs, at: Walk, i: usize) -> Refs
 
 // "an ID value met earlier as an ID (11, place of the later value token)": the loops go over the attributes that have keys, and over the
 // values of one. Each ID is marked; the label is taken at the first that was marked before.
-fn mark_ids(table: &[u64], doc: &[u32], used: usize, from: Walk, field: &mut [u64]) -> Marked
-    requires table_value { (proper table.now ≡ true) × (used ≤ length doc.now) × (used ≤ most_tokens) }
-    requires begun { Begun doc.now used from }
+fn mark_ids(table: &[u64], doc: &[u32], from: Walk, field: &mut [u64]) -> Marked
+    requires table_value { (proper table.now ≡ true) × (length doc.now ≤ most_tokens) }
+    requires begun { Begun doc.now from }
     requires field_len { (length field.old ≡ field_words) × Field field.old [] }
-    ensures { Marks table.now doc.now used from field.new result }
+    ensures { Marks table.now doc.now from field.new result.twice result.refs }
 {
-    let mut fault = none();
+    let mut twice = None;
     let mut refs = Refs { at: from, count: 0 };
     let mut at = from;
-    'ids: while at.place < used {
+    'ids: while at.place < doc.len() {
         let id = is_id(table, at.element, at.attribute);
         let mut i = at.place;
-        while is_value_at(doc, used, i) {
+        while is_value_at(doc, i) {
             let place = i as u32;
             if note(field, id, number(doc[i])) {
-                fault = Fault {
-                    number: paper::ID_TWICE,
+                twice = Some(Fault {
+                    refusal: Refusal::IdTwice,
                     place,
-                };
+                });
                 break 'ids;
             }
             i += 1;
@@ -103,9 +88,9 @@ fn mark_ids(table: &[u64], doc: &[u32], used: usize, from: Walk, field: &mut [u6
             element: at.element,
             attribute: at.attribute,
         };
-        at = next_key(table, doc, used, behind);
+        at = next_key(table, doc, behind);
     }
-    Marked { fault, refs }
+    Marked { twice, refs }
 }
 
 // The token at the walk's place is a reference value.
@@ -121,15 +106,15 @@ fn is_reference_at(table: &[u64], at: Walk, t: u32) -> bool
 
 // "a reference value that is no ID in the document (12, that token)": of the references, the field being that of all IDs. The pass ends
 // with the last of them.
-fn dangling_reference(table: &[u64], doc: &[u32], used: usize, refs: Refs, field: &[u64]) -> Fault
-    requires table_value { (proper table.now ≡ true) × (used ≤ length doc.now) × (used ≤ most_tokens) }
-    requires owed { Owed table.now doc.now used refs × (length field.now ≡ field_words) }
-    ensures { (result.number, result.place) ≡ unmarked field.now (refs_left table.now doc.now used refs.at) }
+fn dangling_reference(table: &[u64], doc: &[u32], refs: Refs, field: &[u64]) -> Result<(), Fault>
+    requires table_value { (proper table.now ≡ true) × (length doc.now ≤ most_tokens) }
+    requires owed { Owed table.now doc.now refs × (length field.now ≡ field_words) }
+    ensures { told result ≡ unmarked field.now (refs_left table.now doc.now refs.at) }
 {
     let mut at = refs.at;
     let mut left = refs.count;
     while left != 0 {
-        let key = next_key(table, doc, used, at);
+        let key = next_key(table, doc, at);
         let i = key.place;
         let here = i as u32;
         let t = doc[i];
@@ -138,44 +123,45 @@ fn dangling_reference(table: &[u64], doc: &[u32], used: usize, refs: Refs, field
             continue;
         }
         if !is_marked(field, number(t)) {
-            return Fault {
-                number: paper::NO_ID,
+            return Err(Fault {
+                refusal: Refusal::NoId,
                 place: here,
-            };
+            });
         }
         left -= 1;
     }
-    none()
+    Ok(())
 }
 
 // The first fault among the IDs, else among the references, from the walk on.
-fn fault_from(table: &[u64], doc: &[u32], used: usize, from: Walk) -> Fault
-    requires table_value { (proper table.now ≡ true) × (used ≤ length doc.now) × (used ≤ most_tokens) }
-    requires begun { Begun doc.now used from }
-    ensures { (result.number, result.place) ≡ fault_from table.now doc.now used from }
+fn fault_from(table: &[u64], doc: &[u32], from: Walk) -> Result<(), Fault>
+    requires table_value { (proper table.now ≡ true) × (length doc.now ≤ most_tokens) }
+    requires begun { Begun doc.now from }
+    ensures { told result ≡ fault_from table.now doc.now from }
 {
     let mut field = [0u64; WORDS];
-    let marked = mark_ids(table, doc, used, from, &mut field);
-    if marked.fault.number != 0 {
-        return marked.fault;
+    let marked = mark_ids(table, doc, from, &mut field);
+    let twice = marked.twice;
+    if let Some(fault) = twice {
+        return Err(fault);
     }
     let refs = marked.refs;
-    dangling_reference(table, doc, used, refs, &field)
+    dangling_reference(table, doc, refs, &field)
 }
 
 // The first fault among the IDs, else among the references.
-pub fn key_fault(table: &[u64], doc: &[u32], used: usize) -> Fault
-    requires { (proper table.now ≡ true) × (used ≤ length doc.now) × (used ≤ most_tokens) }
-    ensures { (result.number, result.place) ≡ key_fault (of_table table.now) (toks (take used doc.now)) }
+pub fn key_fault(table: &[u64], doc: &[u32]) -> Result<(), Fault>
+    requires { (proper table.now ≡ true) × (length doc.now ≤ most_tokens) }
+    ensures { told result ≡ key_fault (of_table table.now) (toks doc.now) }
 {
     let front = Walk {
         place: 0,
         element: 0,
         attribute: 0,
     };
-    let first = next_key(table, doc, used, front);
-    if first.place >= used {
-        return none();
+    let first = next_key(table, doc, front);
+    if first.place >= doc.len() {
+        return Ok(());
     }
-    fault_from(table, doc, used, first)
+    fault_from(table, doc, first)
 }

@@ -4,12 +4,13 @@
 #![tactic(auto)]
 
 ghost use Rattle.std.specs.Prelude.{◌+◌, ◌≤◌, ◌<◌, length};
+ghost use Rattle.paper.specs.Codes.{number_of};
 ghost use Rattle.paper.specs.Program.{halt, line};
 ghost use Rattle.lines.specs.Put.{Put};
-ghost use Rattle.lines.specs.Lines.{shown, line_of, field, Stop, line_room};
+ghost use Rattle.lines.specs.Lines.{shown, line_of, field, line_room};
 
-use copying::copy_bytes;
-use paper::{AMBIGUOUS, BROKEN, SCHEMA};
+use copying::copy;
+use paper::Refusal;
 
 // The most bytes of a line: numbers of 5, 10, 10 and 20 digits, three spaces and the line's end.
 pub const LINE: usize = 49;
@@ -20,7 +21,7 @@ fn put_text(out: &mut [u8], at: usize, text: &[u8]) -> usize
     ensures { Put out.old at text.now result out.new }
 {
     let n = text.len();
-    copy_bytes(out, at, text, 0, n);
+    copy(out, at, text, 0, n);
     at + n
 }
 
@@ -56,19 +57,28 @@ pub fn put_line(out: &mut [u8], at: usize, k: usize, number: u32, place: u32, us
     put_field(out, c, used as u64, b'\n')
 }
 
-// "prints `stop` and the number"
-pub fn put_stop(out: &mut [u8], at: usize, number: u32) -> usize
-    requires { (Stop number) × (at + line_room ≤ length out.old) }
-    ensures { Put out.old at (line_of (halt number)) result out.new }
+// "prints `stop` and the number": fixed byte strings.
+#[tactic(auto, unfolding(crate::specs::Lines::line_of, crate::specs::Lines::shown))]
+pub fn put_stop(out: &mut [u8], at: usize, refusal: Refusal) -> usize
+    requires { at + line_room ≤ length out.old }
+    ensures { Put out.old at (line_of (halt (number_of refusal))) result out.new }
 {
-    if number == BROKEN {
-        return put_text(out, at, b"stop 1\n");
+    match refusal {
+        Refusal::Broken => put_text(out, at, b"stop 1\n"),
+        Refusal::Schema => put_text(out, at, b"stop 2\n"),
+        Refusal::Ambiguous => put_text(out, at, b"stop 3\n"),
+        Refusal::Shape => put_text(out, at, b"stop 4\n"),
+        Refusal::Room => put_text(out, at, b"stop 5\n"),
+        Refusal::Place => put_text(out, at, b"stop 6\n"),
+        Refusal::Name => put_text(out, at, b"stop 7\n"),
+        Refusal::Attributes => put_text(out, at, b"stop 8\n"),
+        Refusal::Content => put_text(out, at, b"stop 9\n"),
+        Refusal::Root => put_text(out, at, b"stop 10\n"),
+        Refusal::IdTwice => put_text(out, at, b"stop 11\n"),
+        Refusal::NoId => put_text(out, at, b"stop 12\n"),
+        Refusal::Table => put_text(out, at, b"stop 13\n"),
+        Refusal::DtdText => put_text(out, at, b"stop 14\n"),
+        Refusal::Counts => put_text(out, at, b"stop 15\n"),
+        Refusal::NotCompared => put_text(out, at, b"stop 16\n"),
     }
-    if number == SCHEMA {
-        return put_text(out, at, b"stop 2\n");
-    }
-    if number == AMBIGUOUS {
-        return put_text(out, at, b"stop 3\n");
-    }
-    put_text(out, at, b"stop 5\n")
 }

@@ -179,6 +179,26 @@ fn none_done(number: u32, used: usize) -> Listed
     }
 }
 
+// A list without a fault. Table and shape are tested once, as answers of the first edit.
+fn good_list(
+    table: &[u64],
+    doc: &mut [u32],
+    used: usize,
+    list: &[u32],
+    counts: &mut [i32; paper::MOST_ELEMENTS],
+) -> Listed
+    requires { 0 ≡ fault_of (split_list list.now) }
+    ensures { listed_of result doc.new counts.new ≡ edit_list table.now doc.old used list.now counts.old }
+{
+    if !proper::proper(table) {
+        return none_done(paper::TABLE, used);
+    }
+    if !shape::shape(doc, used) {
+        return none_done(paper::SHAPE, used);
+    }
+    run(table, doc, used, list, counts)
+}
+
 // "One call takes a list of 1 to 256 edits." "Document, last answer and number of edits done are those of single calls."
 pub fn list(
     table: &[u64],
@@ -189,15 +209,8 @@ pub fn list(
 ) -> Listed
     ensures { listed_of result doc.new counts.new ≡ edit_list table.now doc.old used list.now counts.old }
 {
-    let fault = list_fault(list);
-    if fault != paper::DONE {
-        return none_done(fault, used);
+    match list_fault(list) {
+        Err(refusal) => none_done(refusal.number(), used),
+        Ok(()) => good_list(table, doc, used, list, counts),
     }
-    if !proper::proper(table) {
-        return none_done(paper::TABLE, used);
-    }
-    if !shape::shape(doc, used) {
-        return none_done(paper::SHAPE, used);
-    }
-    run(table, doc, used, list, counts)
 }

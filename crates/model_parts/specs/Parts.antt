@@ -1,17 +1,16 @@
 -- How the parts of an operator make the whole. Assumes nothing.
-use Rattle.std.specs.Prelude.{Bool, true, false, ◌&&◌, ◌||◌, ℕ, ◌+◌, ◌^◌}
+use Rattle.std.specs.Prelude.{Bool, false, ◌&&◌, ◌||◌, ℕ, ◌+◌, ◌^◌}
 use Rattle.std.specs.Int.Bits.{bit_or}
 use Rattle.paper.specs.Sets.{when}
 use Rattle.model_parts.specs.declared.Part.{Part}
 
 -- a name, occurrence p
 abbrev pub single : ℕ → ℕ → Part
-single at p = record { ok = true; next = at + 1; places = p + 1; nullable = false; first = 2 ^ p; last = 2 ^ p }
+single at p = record { next = at + 1; places = p + 1; nullable = false; first = 2 ^ p; last = 2 ^ p }
 
 -- one part after the other
 abbrev pub sequence : Part → Part → Part
 sequence a b = record {
-  ok = true;
   next = b.next;
   places = b.places;
   nullable = a.nullable && b.nullable;
@@ -22,7 +21,6 @@ sequence a b = record {
 -- either part
 abbrev pub choice : Part → Part → Part
 choice a b = record {
-  ok = true;
   next = b.next;
   places = b.places;
   nullable = a.nullable || b.nullable;
@@ -32,4 +30,4 @@ choice a b = record {
 
 -- the part, where no child at all may match too if the test holds
 abbrev pub also : Bool → Part → Part
-also none a = record { ok = true; next = a.next; places = a.places; nullable = none || a.nullable; first = a.first; last = a.last }
+also none a = record { next = a.next; places = a.places; nullable = none || a.nullable; first = a.first; last = a.last }

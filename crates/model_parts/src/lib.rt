@@ -3,36 +3,21 @@
 // A set is a word, bit k for occurrence k. Assumes nothing.
 #![tactic(auto)]
 
-ghost use Rattle.std.specs.Prelude.{◌≡◌, false, ◌+◌, ◌<◌, ◌^◌};
+ghost use Rattle.std.specs.Prelude.{◌≡◌, ◌+◌, ◌<◌, ◌^◌};
 ghost use Rattle.paper.specs.Basics.{most_names};
 ghost use Rattle.model_parts.specs.Parts.{single, sequence, choice, also};
 
 use sets::{one, when};
 
-// An expression that was read, if `ok`: the place after it, the number of the next occurrence, whether no child at all matches,
-// and the sets of its first and last occurrences.
+// An expression that was read: the place after it, the number of the next occurrence, whether no child at all matches, and the
+// sets of its first and last occurrences.
 #[derive(Clone, Copy)]
 pub struct Part {
-    pub ok: bool,
     pub next: usize,
     pub places: usize,
     pub nullable: bool,
     pub first: u64,
     pub last: u64,
-}
-
-// There is no expression, or no room for its names.
-pub fn nothing() -> Part
-    ensures { result.ok ≡ false }
-{
-    Part {
-        ok: false,
-        next: 0,
-        places: 0,
-        nullable: false,
-        first: 0,
-        last: 0,
-    }
 }
 
 // A name, occurrence p.
@@ -42,7 +27,6 @@ pub fn one_name(at: usize, p: usize) -> Part
 {
     let alone = one(p as u32);
     Part {
-        ok: true,
         next: at + 1,
         places: p + 1,
         nullable: false,
@@ -56,7 +40,6 @@ pub fn in_sequence(a: Part, b: Part) -> Part
     ensures { result ≡ sequence a b }
 {
     Part {
-        ok: true,
         next: b.next,
         places: b.places,
         nullable: a.nullable & b.nullable,
@@ -70,7 +53,6 @@ pub fn either(a: Part, b: Part) -> Part
     ensures { result ≡ choice a b }
 {
     Part {
-        ok: true,
         next: b.next,
         places: b.places,
         nullable: a.nullable | b.nullable,
@@ -84,7 +66,6 @@ pub fn with_none(none: bool, a: Part) -> Part
     ensures { result ≡ also none a }
 {
     Part {
-        ok: true,
         next: a.next,
         places: a.places,
         nullable: none | a.nullable,

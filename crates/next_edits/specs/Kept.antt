@@ -14,12 +14,9 @@ use Rattle.paper.specs.Program.{second}
 use Rattle.shape_laws.specs.Written.{written_take}
 use Rattle.basic_laws.specs.Bools.{clash}
 use Rattle.judge_laws.specs.Connectives.{else_iff}
-use Rattle.form.specs.declared.Form.{Form}
 use Rattle.edits.specs.declared.Answer.{Answer}
 use Rattle.edits.specs.Outcomes.{done_with, refusal}
 use Rattle.kept_keys.specs.Follow.{Keeps}
-use Rattle.kept_judged.specs.Judged.{FoundKept}
-use Rattle.touched.specs.declared.Finding.{Finding}
 
 -- after a done edit the field of IDs and the counts of references are those of the document
 pub record Goes (table doc field referred : List ℕ) (r : Answer) : Type 0 where
@@ -29,15 +26,14 @@ pub goes_refused : (table doc field referred : List ℕ) {r : Answer} {n place u
 goes_refused table doc field referred h e = record { keeps = λ z. absurd (h (sym (ap (λ (x : Answer). x.number) e) ∙ z)) }
 
 -- what was written is the edited document
-pub goes_done : (table doc : List ℕ) (used : ℕ) {new : List ℕ} {f : Form} {field referred doc' : List ℕ} {w : Finding} {r : Answer} → f.used ≤ length new
-    → FoundKept table new f field referred w → w.number ≡ 0 → doc' ≡ written doc used (take f.used new) → r ≡ done_with used f.used w.children
-    → Goes table doc' field referred r
-goes_done table doc used {new} {f} {field} {referred} {doc'} {w} {r} l k z ed er = record {
+pub goes_done : (table doc : List ℕ) (used : ℕ) (new : List ℕ) {end children : ℕ} {field referred doc' : List ℕ} {r : Answer} → end ≤ length new
+    → Keeps table field referred (toks (take end new)) → doc' ≡ written doc used (take end new) → r ≡ done_with used end children → Goes table doc' field referred r
+goes_done table doc used new {end} {children} {field} {referred} {doc'} {r} l k ed er = record {
   keeps = λ _.
-      let n : f.used ≡ length (take f.used new) = sym (length-take-le f.used new l) in
-      let same : take r.used doc' ≡ take f.used new
-      = ap₂ take (ap (λ (x : Answer). x.used) er ∙ n) ed ∙ written_take doc used (take f.used new) in
-      subst (λ l. Keeps table field referred (toks l)) (sym same) (k.keeps z);
+      let n : end ≡ length (take end new) = sym (length-take-le end new l) in
+      let same : take r.used doc' ≡ take end new
+      = ap₂ take (ap (λ (x : Answer). x.used) er ∙ n) ed ∙ written_take doc used (take end new) in
+      subst (λ l. Keeps table field referred (toks l)) (sym same) k;
 }
 
 -- ---- a done edit leaves no fault of 11 or 12

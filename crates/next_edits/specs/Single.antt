@@ -4,7 +4,8 @@ use Rattle.std.proofs.Common.{sym, ap, ◌∙◌, arith}
 use Rattle.std.proofs.Math.Bool.{true, false}
 use Rattle.std.proofs.lemmas.List.{length-replicate}
 use Rattle.paper.specs.Basics.{most_back, all}
-use Rattle.paper.specs.Tokens.{toks}
+use Rattle.paper.specs.Tokens.{toks, touched}
+use Rattle.paper.specs.Counts.{moved_from, count_good}
 use Rattle.paper.specs.Shape.{shape_of}
 use Rattle.paper.specs.Table.{proper}
 use Rattle.paper.specs.Rules.{of_table}
@@ -12,7 +13,7 @@ use Rattle.paper.specs.Judgement as judgement
 use Rattle.paper.specs.Judgement.{judge}
 use Rattle.paper.specs.Requests.{Request, edited, touched_by}
 use Rattle.paper.specs.Back.{needs, inverse, noted}
-use Rattle.paper.specs.Edits.{Edited, refused, done, Outcome, outcome, made, written, limit_fault, answered, editing, edit_by, edit}
+use Rattle.paper.specs.Edits.{children_of, Edited, refused, done, Outcome, outcome, made, written, form_fault, limit_fault, answered, editing, edit_by, edit}
 use Rattle.paper.specs.Lists.{alone, lent_with, next_edit}
 use Rattle.paper.specs.Program.{second}
 use Rattle.shape_laws.specs.EditJudged.{Asked, form_iff, asked_shape}
@@ -23,14 +24,14 @@ use Rattle.back_laws.specs.Taken.{shape_document}
 use Rattle.back_laws.specs.Sizes.{size_iff}
 use Rattle.count_laws.specs.Limits.{limit_iff}
 use Rattle.counts.specs.Moved.{few}
-use Rattle.counts.specs.Whole.{Moved}
 use Rattle.form.specs.declared.Form.{Form}
-use Rattle.form.specs.Form.{Formed}
+use Rattle.form.specs.Form.{InForm}
+use Rattle.paper.specs.declared.Refusal.{Refusal}
 use Rattle.edits.specs.declared.Answer.{Answer}
-use Rattle.touched.specs.declared.Finding.{Finding}
-use Rattle.touched.specs.Judged.{Found}
+use Rattle.paper.specs.declared.Fault.{Fault}
+use Rattle.paper.specs.Codes.{number_of}
 use Rattle.edits.specs.Outcomes.{outcome_of, refusal, done_with}
-use Rattle.edits.proofs.Outcomes.{edit_form, edit_counts, edit_put, edit_fault, edit_done}
+use Rattle.edits.proofs.Outcomes.{edit_form, edit_counts, edit_fault, edit_done}
 
 second_long : length second ≡ most_back
 second_long = length-replicate {A = ℕ} most_back 0
@@ -49,35 +50,37 @@ module _ (op place : ℕ) (piece table buf : List ℕ) (used : ℕ) (counts : Li
 
   -- ---- the ways out
 
-  module _ {r : Form} {after : List ℕ} (f : Formed (length buf) q doc r after) where
-    abbrev next : Outcome
-    next = next_edit table (lent_with buf used counts 0) q
+  abbrev next : Outcome
+  next = next_edit table (lent_with buf used counts 0) q
 
-    pub next_form : {x : Answer} → (r.number ≡ 0 → ⊥) → x ≡ refusal r.number 0 used → outcome_of x buf [] counts ≡ next
-    next_form h e = ap alone (edit_form op place piece buf used table second counts f h e ∙ whole_call second)
+  pub next_form : {x : Answer} (r : Refusal) → number_of r ≡ form_fault (length buf) q doc → x ≡ refusal (number_of r) 0 used → outcome_of x buf [] counts ≡ next
+  next_form r er e = ap alone (edit_form op place piece buf used table second counts r er e ∙ whole_call second)
 
-    module _ (z : r.number ≡ 0) {moves : List ℕ} {y : Bool}
-        (ey : Moved (of_table table).elements (toks (take (used + r.coming - r.used) (drop r.at buf))) (toks (take r.coming (drop r.at after))) counts moves y) where
-      -- any inverse has room
-      room : needs q doc ≤ length second
-      room = omega (arith, needs_most (length buf) q doc (shape_document buf used sh) (sym f.number ∙ z), second_long)
+  module _ {r : Form} {after : List ℕ} (f : InForm (length buf) q doc after r) where
+    -- any inverse has room
+    room : needs q doc ≤ length second
+    room = omega (arith, needs_most (length buf) q doc (shape_document buf used sh) f.none, second_long)
 
-      pub next_counts : {x : Answer} → not y ≡ true → x ≡ refusal 15 0 used → outcome_of x buf [] counts ≡ next
-      next_counts h e = ap alone (edit_counts op place piece buf used table second counts f z refl room sh ey h e ∙ whole_call second)
+    abbrev counts_by : List ℤ
+    counts_by = moved_from (toks (take (used + r.coming - r.used) (drop r.at buf))) (toks (take r.coming (drop r.at after))) (of_table table).elements 0 counts
 
-      pub next_put : not y ≡ false → all few moves ≡ true
-      next_put h = edit_put op place piece buf used table second counts f z refl room sh ey h
+    abbrev judgement_of : judgement.Answer
+    judgement_of = judge (of_table table) (touched r.at r.coming (toks (take r.used after))) (toks (take r.used after))
 
-      module _ (hy : not y ≡ false) {w : Finding} (ew : Found table after r.used r.at r.coming w) where
-        pub next_fault : {x : Answer} → (w.number ≡ 0 → ⊥) → x ≡ refusal w.number w.place used → outcome_of x buf [] counts ≡ next
-        next_fault h e = ap alone (edit_fault op place piece buf used table second counts f z refl room sh ey hy ew h e ∙ whole_call second)
+    pub next_counts : {x : Answer} → all count_good counts_by ≡ false → x ≡ refusal 15 0 used → outcome_of x buf [] counts ≡ next
+    next_counts h e = ap alone (edit_counts op place piece buf used table second counts f refl room sh h e ∙ whole_call second)
 
-        pub next_done : {x : Answer} {after' : List ℕ} {counts' : List ℤ} → w.number ≡ 0 → counts' ≡ map pos moves
-            → after' ≡ written buf used (take r.used after) → x ≡ done_with used r.used w.children → outcome_of x after' [] counts' ≡ next
-        next_done h ec eb ex =
-            ap alone
-            (edit_done op place piece buf used table second counts f z refl room sh ey hy ew {second' = noted second (inverse q doc)} h refl ec eb ex
-            ∙ whole_call second)
+    module _ (moves : List ℕ) (ey : (all few moves ≡ true) × (map pos moves ≡ counts_by)) where
+      pub next_fault : {x : Answer} (w : Fault) → (number_of w.refusal, w.place) ≡ judgement_of → x ≡ refusal (number_of w.refusal) w.place used → outcome_of x buf [] counts ≡ next
+      next_fault w ew e = ap alone (edit_fault op place piece buf used table second counts f refl room sh moves ey w ew e ∙ whole_call second)
+
+      pub next_done : {children : ℕ} → ((0, 0) ≡ judgement_of) × (children ≡ children_of (touched r.at r.coming (toks (take r.used after))) 0 (toks (take r.used after)))
+          → {x : Answer} {after' : List ℕ} {counts' : List ℤ} → counts' ≡ map pos moves
+          → after' ≡ written buf used (take r.used after) → x ≡ done_with used r.used children → outcome_of x after' [] counts' ≡ next
+      next_done ew ec eb ex =
+          ap alone
+          (edit_done op place piece buf used table second counts f refl room sh moves ey ew {second' = noted second (inverse q doc)} refl ec eb ex
+          ∙ whole_call second)
 
 -- ---- the document after it
 

@@ -13,14 +13,47 @@ ghost use Rattle.paper.specs.Rules.{of_table};
 ghost use Rattle.paper.specs.Judgement.{key_fault};
 ghost use Rattle.paper.specs.Lists.{lent_with, next_edit};
 ghost use Rattle.edits.specs.Outcomes.{outcome_of};
+ghost use Rattle.form.specs.Form.{InForm};
 ghost use Rattle.kept_keys.specs.Follow.{Keeps};
 ghost use Rattle.next_edits.specs.Kept.{Goes};
 
 use counts::put;
 use edits::{Answer, carried, commit, refused};
-use form::form_of;
+use form::{Form, form_of};
 use kept_judged::judged_kept;
 use touched::judged;
+
+// The first edit, in form; new holds the edited tokens.
+fn next_in_form(
+    table: &[u64],
+    doc: &mut [u32],
+    used: usize,
+    operation: u32,
+    place: usize,
+    piece: &[u32],
+    counts: &mut [i32; paper::MOST_ELEMENTS],
+    f: Form,
+    new: &[u32],
+) -> Answer
+    requires table_value { (proper table.now ≡ true) × (shape_of doc.old used ≡ true) }
+    requires form { InForm (length doc.old) (record { operation = operation; place = place; piece = piece.now }) (take used doc.old) new.now f }
+    ensures { outcome_of result doc.new [] counts.new ≡ next_edit table.now (lent_with doc.old used counts.old 0) (record { operation = operation; place = place; piece = piece.now }) }
+{
+    let at = f.at;
+    let cut = used + f.coming - f.used;
+    let Some(after) = carried(table, counts, doc, new, at, cut, f.coming) else {
+        return refused(paper::COUNTS, 0, used);
+    };
+    let end = f.used;
+    let edited = &new[..end];
+    match judged(table, edited, at, f.coming) {
+        Err(fault) => refused(fault.refusal.number(), fault.place, used),
+        Ok(children) => {
+            put(counts, &after);
+            commit(doc, used, edited, at, children)
+        }
+    }
+}
 
 // The first edit: its judgement looks through all IDs and references.
 pub fn next_edit(
@@ -36,23 +69,48 @@ pub fn next_edit(
     requires { (proper table.now ≡ true) × (shape_of doc.old used ≡ true) × (length new.old ≡ most_tokens) }
     ensures { outcome_of result doc.new [] counts.new ≡ next_edit table.now (lent_with doc.old used counts.old 0) (record { operation = operation; place = place; piece = piece.now }) }
 {
-    let f = form_of(doc, used, operation, place, piece, new);
-    if f.number != paper::DONE {
-        return refused(f.number, 0, used);
+    let room = doc.len();
+    match form_of(&doc[..used], room, operation, place, piece, new) {
+        Err(refusal) => refused(refusal.number(), 0, used),
+        Ok(f) => next_in_form(table, doc, used, operation, place, piece, counts, f, new),
     }
-    let end = f.used;
+}
+
+// A later edit, in form; new holds the edited tokens.
+fn kept_in_form(
+    table: &[u64],
+    doc: &mut [u32],
+    used: usize,
+    operation: u32,
+    place: usize,
+    piece: &[u32],
+    counts: &mut [i32; paper::MOST_ELEMENTS],
+    f: Form,
+    new: &[u32],
+    field: &mut [u64],
+    referred: &mut [u16],
+) -> Answer
+    requires table_value { (proper table.now ≡ true) × (shape_of doc.old used ≡ true) }
+    requires form { InForm (length doc.old) (record { operation = operation; place = place; piece = piece.now }) (take used doc.old) new.now f }
+    requires doc_value { ((key_fault (of_table table.now) (toks (take used doc.old))).0 ≡ 0) × Keeps table.now field.old referred.old (toks (take used doc.old)) }
+    ensures counts_after { outcome_of result doc.new [] counts.new ≡ next_edit table.now (lent_with doc.old used counts.old 0) (record { operation = operation; place = place; piece = piece.now }) }
+    ensures goes { Goes table.now doc.new field.new referred.new result }
+{
     let at = f.at;
-    let cut = used + f.coming - end;
-    let mut after = [0u32; paper::MOST_ELEMENTS];
-    if !carried(table, counts, doc, new, at, cut, f.coming, &mut after) {
+    let cut = used + f.coming - f.used;
+    let Some(after) = carried(table, counts, doc, new, at, cut, f.coming) else {
         return refused(paper::COUNTS, 0, used);
+    };
+    let end = f.used;
+    let edited = &new[..end];
+    let old = &doc[..used];
+    match judged_kept(table, old, place, edited, at, f.coming, field, referred) {
+        Err(fault) => refused(fault.refusal.number(), fault.place, used),
+        Ok(children) => {
+            put(counts, &after);
+            commit(doc, used, edited, at, children)
+        }
     }
-    let seen = judged(table, new, end, at, f.coming);
-    if seen.number != paper::DONE {
-        return refused(seen.number, seen.place, used);
-    }
-    put(counts, &after);
-    commit(doc, used, new, at, end, seen.children)
 }
 
 // A later edit: the document before it has no fault of 11 or 12, and what is kept of its IDs and references is lent. After a done edit that is
@@ -74,21 +132,11 @@ pub fn kept_edit(
     ensures counts_after { outcome_of result doc.new [] counts.new ≡ next_edit table.now (lent_with doc.old used counts.old 0) (record { operation = operation; place = place; piece = piece.now }) }
     ensures goes { Goes table.now doc.new field.new referred.new result }
 {
-    let f = form_of(doc, used, operation, place, piece, new);
-    if f.number != paper::DONE {
-        return refused(f.number, 0, used);
+    let room = doc.len();
+    match form_of(&doc[..used], room, operation, place, piece, new) {
+        Err(refusal) => refused(refusal.number(), 0, used),
+        Ok(f) => kept_in_form(
+            table, doc, used, operation, place, piece, counts, f, new, field, referred,
+        ),
     }
-    let end = f.used;
-    let at = f.at;
-    let cut = used + f.coming - end;
-    let mut after = [0u32; paper::MOST_ELEMENTS];
-    if !carried(table, counts, doc, new, at, cut, f.coming, &mut after) {
-        return refused(paper::COUNTS, 0, used);
-    }
-    let seen = judged_kept(table, doc, used, place, new, f, field, referred);
-    if seen.number != paper::DONE {
-        return refused(seen.number, seen.place, used);
-    }
-    put(counts, &after);
-    commit(doc, used, new, at, end, seen.children)
 }

@@ -1,7 +1,7 @@
 -- A number at a place of a list of bytes. Assumes nothing.
 use Rattle.std.proofs.Math.Path.{◌≡◌, refl, sym, ap}
 use Rattle.std.proofs.Common.{◌∙◌, arith, drop_of_length-le, drop-drop}
-use Rattle.std.specs.Prelude.{Bool, true, cond, ◌↔◌, ℕ, suc, ◌+◌, ◌-◌, ◌*◌, ◌≤◌, ◌<◌, ltb, eqb, get_or}
+use Rattle.std.specs.Prelude.{Option, Some, None, Bool, true, cond, ◌↔◌, ℕ, suc, ◌+◌, ◌-◌, ◌*◌, ◌≤◌, ◌<◌, ltb, eqb, get_or}
 use Rattle.std.proofs.Math.Bool.{false, and-eq-true_iff}
 use mathlib.Core.List.{List, [], ◌∷◌}
 use borrow.Author.Tests.{ltb-true, lt-ltb, le-ltb, eq-eqb, ne_eqb}
@@ -10,62 +10,15 @@ use Rattle.paper.specs.Files.{largest, Front, broken, got, second, third, front}
 use Rattle.basic_laws.specs.Lists.{drop_next}
 use Rattle.numbers.specs.Laws.{bytes, never}
 use Rattle.numbers.specs.declared.Num.{Num}
-use Rattle.numbers.specs.declared.Num.TheVariants.{Broken, Got}
 
 -- the bytes after a number, in a list of n bytes, by the place where they begin
-abbrev pub placed : ℕ → Front → Num
-placed n broken = Broken
-placed n (got v r) = Got v (n - length r)
+abbrev pub placed : ℕ → Front → Option Num
+placed n broken = None
+placed n (got v r) = Some (record { value = v; next = n - length r })
 
 -- what stands at a place of s
-unfoldable pub num_at : List ℕ → ℕ → Num
+unfoldable pub num_at : List ℕ → ℕ → Option Num
 num_at s at = placed (length s) (front (drop at s))
-
--- ---- byte by byte
-
--- F reads a byte after the first, of weight w, where the bytes before it carry v and `more` reads those after it
-pub record Later (F : List ℕ → Front) (w v : ℕ) (more : ℕ → List ℕ → Front) : Type 0 where
-  none : F [] ≡ broken
-  some : (c : ℕ) (r : List ℕ) → F (c ∷ r) ≡ cond (eqb c 0) broken (cond (ltb c 128) (got (v + c * w) r) (more c r))
-
-module _ (v : ℕ) where
-  pub by_third : Later (third v) 16384 v (λ c r. broken)
-  by_third = record { none = refl; some = λ c r. refl }
-
-  pub by_second : Later (second v) 128 v (λ b r. third (v + (b - 128) * 128) r)
-  by_second = record { none = refl; some = λ b r. refl }
-
-module _ (s : List ℕ) (at : ℕ) where
-  after : at < length s → length s - length (drop (at + 1) s) ≡ at + 1
-  after h = rw length-drop (omega arith)
-
-module _ {F : List ℕ → Front} {w v : ℕ} {more : ℕ → List ℕ → Front} (f : Later F w v more) (s : List ℕ) (at : ℕ) where
-  pub later_end : length s ≤ at → Broken ≡ placed (length s) (F (drop at s))
-  later_end h = rw (drop_of_length-le s h, f.none)
-
-  pub later_zero : at < length s → get_or s at 0 ≡ 0 → Broken ≡ placed (length s) (F (drop at s))
-  later_zero h z = rw (drop_next s at h, f.some, eq-eqb (get_or s at 0) 0 z)
-
-  pub later_last : at < length s → (get_or s at 0 ≡ 0 → ⊥) → get_or s at 0 < 128
-      → Got (v + get_or s at 0 * w) (at + 1) ≡ placed (length s) (F (drop at s))
-  later_last h z l = rw (drop_next s at h, f.some, ne_eqb (get_or s at 0) 0 z, lt-ltb (get_or s at 0) 128 l, after s at h)
-
-  pub later_more : {r : Num} → at < length s → (get_or s at 0 ≡ 0 → ⊥) → 128 ≤ get_or s at 0
-      → r ≡ placed (length s) (more (get_or s at 0) (drop (at + 1) s)) → r ≡ placed (length s) (F (drop at s))
-  later_more h z l e = rw (drop_next s at h, f.some, ne_eqb (get_or s at 0) 0 z, le-ltb (get_or s at 0) 128 l) e
-
-module _ (s : List ℕ) (at : ℕ) where
-  pub first_end : length s ≤ at → Broken ≡ num_at s at
-  unfolding num_at front
-  first_end h = rw (drop_of_length-le s h)
-
-  pub first_last : at < length s → get_or s at 0 < 128 → Got (get_or s at 0) (at + 1) ≡ num_at s at
-  unfolding num_at front
-  first_last h l = rw (drop_next s at h, lt-ltb (get_or s at 0) 128 l, after s at h)
-
-  pub first_more : {r : Num} → at < length s → 128 ≤ get_or s at 0 → r ≡ placed (length s) (second (get_or s at 0 - 128) (drop (at + 1) s)) → r ≡ num_at s at
-  unfolding num_at front
-  first_more h l e = rw (drop_next s at h, le-ltb (get_or s at 0) 128 l) e
 
 -- ---- what an answer tells
 
@@ -128,26 +81,27 @@ pub record Stands (s : List ℕ) (at v next : ℕ) : Type 0 where
   pub within : next ≤ length s
 
 module _ (s : List ℕ) (at : ℕ) where
-  -- The answer `Got` is given only where the number stands.
-  pub at_got : (v next : ℕ) → num_at s at ≡ Got v next → Stands s at v next
+  -- `Some` is answered only where the number stands.
+  pub at_got : (v next : ℕ) → num_at s at ≡ Some (record { value = v; next = next }) → Stands s at v next
   unfolding num_at
   at_got v next e = go (front (drop at s)) refl e
     where
-      go : (f : Front) → front (drop at s) ≡ f → placed (length s) f ≡ Got v next → Stands s at v next
+      go : (f : Front) → front (drop at s) ≡ f → placed (length s) f ≡ Some (record { value = v; next = next }) → Stands s at v next
       go broken p e = let z : ◌≡◌ {A = ℕ} 0 1 = cc in absurd (omega arith)
       go (got w r) p e =
           let t : Taken (drop at s) r = taken (drop at s) p in
-          let k : w ≡ v = cc in
-          let m : length s - length r ≡ next = cc in
+          let q : ◌≡◌ {A = Num} (record { value = w; next = length s - length r }) (record { value = v; next = next }) = cc in
+          let k : w ≡ v = ap (λ (x : Num). x.value) q in
+          let m : length s - length r ≡ next = ap (λ (x : Num). x.next) q in
           let d : drop (at + t.size) s ≡ r = sym (drop-drop t.size at s) ∙ t.rest in
           let a : at + t.size ≡ next = omega (arith, t.some, t.within, length-drop at s, length-drop (at + t.size) s, ap length d) in
           record { reads = rw (← a, d, ← k) p; on = omega (arith, t.some); within = omega (arith, t.some, t.within, length-drop at s) }
 
-  -- The answer `Broken` is given exactly where no number stands.
-  pub at_broken : (num_at s at ≡ Broken) ↔ (front (drop at s) ≡ broken)
+  -- `None` is answered exactly where no number stands.
+  pub at_broken : (num_at s at ≡ None) ↔ (front (drop at s) ≡ broken)
   unfolding num_at
   at_broken = (λ e. go (front (drop at s)) refl e, λ e. rw e)
     where
-      go : (f : Front) → front (drop at s) ≡ f → placed (length s) f ≡ Broken → front (drop at s) ≡ broken
+      go : (f : Front) → front (drop at s) ≡ f → placed (length s) f ≡ None → front (drop at s) ≡ broken
       go broken p e = p
       go (got w r) p e = let z : ◌≡◌ {A = ℕ} 0 1 = cc in absurd (omega arith)

@@ -1,6 +1,6 @@
 // Seven-bit numbers: one is read at a place of a slice of bytes, its bytes are counted, and it is stored at a place.
 //
-// Nothing is asked of the bytes that are read: a number that is not whole, not of the shortest form or too long is `Broken`.
+// Nothing is asked of the bytes that are read: a number that is not whole, not of the shortest form or too long is `None`.
 // Assumes nothing.
 #![tactic(auto)]
 
@@ -9,68 +9,57 @@ ghost use Rattle.paper.specs.Files.{bytes_of, second, third};
 ghost use Rattle.numbers.specs.At.{placed, num_at};
 ghost use Rattle.numbers.specs.Store.{Storable, stored};
 
-// What stands at a place: a number, with the place after it, or none.
+// A number that stands at a place, and the place after it.
 #[derive(Clone, Copy)]
-pub enum Num {
-    Broken,
-    Got { value: u32, next: usize },
+pub struct Num {
+    pub value: u32,
+    pub next: usize,
 }
 
 // The third byte; the two before it carry v.
-fn third_at(s: &[u8], at: usize, v: u32) -> Num
+fn third_at(s: &[u8], at: usize, v: u32) -> Option<Num>
     requires { v < 16384 }
     ensures { result ≡ placed (length s.now) (third v (drop at s.now)) }
 {
-    if at >= s.len() {
-        return Num::Broken;
+    let c = *s.get(at)? as u32;
+    if c == 0 || c >= 128 {
+        return None;
     }
-    let c = s[at] as u32;
-    if c == 0 {
-        return Num::Broken;
-    }
-    if c < 128 {
-        return Num::Got {
-            value: v + c * 16384,
-            next: at + 1,
-        };
-    }
-    Num::Broken
+    Some(Num {
+        value: v + c * 16384,
+        next: at + 1,
+    })
 }
 
 // The second byte; the one before it carries v.
-fn second_at(s: &[u8], at: usize, v: u32) -> Num
+fn second_at(s: &[u8], at: usize, v: u32) -> Option<Num>
     requires { v < 128 }
     ensures { result ≡ placed (length s.now) (second v (drop at s.now)) }
 {
-    if at >= s.len() {
-        return Num::Broken;
-    }
-    let b = s[at] as u32;
+    let b = *s.get(at)? as u32;
     if b == 0 {
-        return Num::Broken;
+        return None;
     }
     if b < 128 {
-        return Num::Got {
+        return Some(Num {
             value: v + b * 128,
             next: at + 1,
-        };
+        });
     }
     third_at(s, at + 1, v + (b - 128) * 128)
 }
 
 // The number at a place of s.
-pub fn number_at(s: &[u8], at: usize) -> Num
+#[tactic(auto, unfolding(crate::specs::At::num_at, paper::specs::Files::front))]
+pub fn number_at(s: &[u8], at: usize) -> Option<Num>
     ensures { result ≡ num_at s.now at }
 {
-    if at >= s.len() {
-        return Num::Broken;
-    }
-    let a = s[at] as u32;
+    let a = *s.get(at)? as u32;
     if a < 128 {
-        return Num::Got {
+        return Some(Num {
             value: a,
             next: at + 1,
-        };
+        });
     }
     second_at(s, at + 1, a - 128)
 }

@@ -1,26 +1,25 @@
 -- What the code computes of a pair's number is what the machine says of the pair. Assumes nothing.
-use Rattle.std.specs.Prelude.{◌≡◌, true, not, ◌&&◌, List, ℕ, suc, ◌+◌, ◌/◌, ◌%◌}
+use Rattle.std.specs.Prelude.{◌≡◌, true, Option, Some, None, not, ◌&&◌, List, ℕ, suc, ◌+◌, ◌/◌, ◌%◌}
 use Rattle.std.proofs.Math.Path.{refl, ap₂}
 use Rattle.std.proofs.Common.{◌∙◌, ap, arith, div-add-mod', lt-ltb, ne_eqb}
-use Rattle.std.proofs.Math.Option.{Option, none, some}
+use Rattle.std.proofs.Math.Option.{Option as Maybe, none, some}
 use Rattle.std.proofs.Math.Nat.{mul-add-div_right, div-eq_of_lt}
 use Rattle.paper.specs.Table.{cell, count_at}
 use Rattle.paper.specs.Rules.{State, start, at, move}
 use Rattle.table.specs.Run.{stepped, inside, Ready}
-use Rattle.paper.specs.Basics.{sequence_places}
 use Rattle.inclusion_laws.specs.Pairs.{stops, Pair, state_number, run_number, Inside, InsideRun, pairs}
 use Rattle.inclusion_laws.proofs.Pairs.{run_below}
 use Rattle.pairs.specs.Number.{run_at, run_at_lem, old_at, new_at, Paired, join_number, leads_to}
 
-inside_true : (b : List ℕ) (o : Option State) → InsideRun b o → inside b o ≡ true
+inside_true : (b : List ℕ) (o : Maybe State) → InsideRun b o → inside b o ≡ true
 inside_true b none i = refl
 inside_true b (some start) i = refl
 inside_true b (some (at k)) i = lt-ltb k (cell b count_at) i
 
 -- a child's pair, or none
-abbrev pub numbered : (old new : List ℕ) → Option Pair → ℕ
-numbered old new none = sequence_places
-numbered old new (some y) = (pairs old new).number y
+abbrev pub numbered : (old new : List ℕ) → Maybe Pair → Option ℕ
+numbered old new none = None
+numbered old new (some y) = Some ((pairs old new).number y)
 
 -- x is a pair of runs of two blocks, and p its number
 module _ (old new : List ℕ) (r : Ready old) (q : Ready new) (x : Pair) (i : Inside old x.was) (j : InsideRun new x.is) (p : ℕ) (e : p ≡ (pairs old new).number x) where
@@ -53,7 +52,7 @@ module _ (old new : List ℕ) (r : Ready old) (q : Ready new) (x : Pair) (i : In
   unfolding leads_to
   leads_pair a = ap₂ (λ s t. join_number (run_number (stepped old s a)) (run_number (stepped new t a))) old_at_lem new_at_lem ∙ go (move old x.was a)
     where
-      go : (o : Option ℕ) → join_number (run_number (elim o [ none ↦ none | some k ↦ some (at k) ])) (run_number (stepped new x.is a))
-          ≡ numbered old new (elim o as (λ z. Option Pair) [ none ↦ none | some k ↦ some (record { was = at k; is = stepped new x.is a }) ])
+      go : (o : Maybe ℕ) → join_number (run_number (elim o [ none ↦ none | some k ↦ some (at k) ])) (run_number (stepped new x.is a))
+          ≡ numbered old new (elim o as (λ z. Maybe Pair) [ none ↦ none | some k ↦ some (record { was = at k; is = stepped new x.is a }) ])
       go none = refl
-      go (some k) = rw (ne_eqb (suc (suc k)) 0 (omega arith)) (omega arith)
+      go (some k) = rw (ne_eqb (suc (suc k)) 0 (omega arith)) (ap Some (omega arith))

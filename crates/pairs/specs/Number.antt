@@ -1,11 +1,11 @@
 -- Pairs as numbers. Assumes nothing.
-use Rattle.std.specs.Prelude.{◌≡◌, refl, Bool, true, cond, not, ◌&&◌, ◌||◌, List, ℕ, suc, ◌+◌, ◌-◌, ◌*◌, ◌/◌, ◌%◌, ◌≤◌, ◌<◌, eqb}
+use Rattle.std.specs.Prelude.{◌≡◌, refl, Bool, true, Option, Some, None, cond, not, ◌&&◌, ◌||◌, List, ℕ, suc, ◌+◌, ◌-◌, ◌*◌, ◌/◌, ◌%◌, ◌≤◌, ◌<◌, eqb}
 use Rattle.std.proofs.Common.{◌∙◌, arith, ltb-true, ne_eqb}
 use Rattle.std.proofs.Math.Path.{ap, ap₂}
-use Rattle.std.proofs.Math.Option.{Option, none, some}
-use Rattle.paper.specs.Basics.{most_names, sequence_places}
+use Rattle.std.proofs.Math.Option.{Option as Maybe, none, some}
+use Rattle.paper.specs.Basics.{most_names}
 use Rattle.paper.specs.Table.{cell, count_at}
-use Rattle.paper.specs.Rules.{State, start, at, ended}
+use Rattle.paper.specs.Rules.{State, start, at, ended, goes_on}
 use Rattle.table.specs.Run.{state_of, stepped, inside, Ready, Stepped}
 use Rattle.table.specs.declared.Run.{Run}
 use Rattle.table.specs.declared.Run.TheVariants.{Start, At, Lost}
@@ -13,10 +13,10 @@ use Rattle.inclusion_laws.specs.Pairs.{stops, run_number}
 
 -- ---- runs
 
-abbrev pub run_at : ℕ → Option State
+abbrev pub run_at : ℕ → Maybe State
 run_at n = cond (eqb n 0) none (cond (eqb n 1) (some start) (some (at (n - 2))))
 
-pub run_at_lem : (o : Option State) → run_at (run_number o) ≡ o
+pub run_at_lem : (o : Maybe State) → run_at (run_number o) ≡ o
 run_at_lem none = refl
 run_at_lem (some start) = refl
 run_at_lem (some (at k)) =
@@ -25,10 +25,10 @@ run_at_lem (some (at k)) =
 
 -- ---- pairs
 
-abbrev pub old_at : ℕ → Option State
+abbrev pub old_at : ℕ → Maybe State
 old_at p = run_at (p / 66 + 1)
 
-abbrev pub new_at : ℕ → Option State
+abbrev pub new_at : ℕ → Maybe State
 new_at p = run_at (p % 66)
 
 -- both runs stand inside their blocks
@@ -39,10 +39,10 @@ pub record Paired (old new : List ℕ) (p : ℕ) : Type 0 where
   pub new_inside : inside new (new_at p) ≡ true
 
 -- the pair of two runs, the old one not lost
-abbrev pub join_number : ℕ → ℕ → ℕ
-join_number w i = cond (eqb w 0) sequence_places ((w - 1) * 66 + i)
+abbrev pub join_number : ℕ → ℕ → Option ℕ
+join_number w i = cond (eqb w 0) None (Some ((w - 1) * 66 + i))
 
-unfoldable pub leads_to : List ℕ → List ℕ → ℕ → ℕ → ℕ
+unfoldable pub leads_to : List ℕ → List ℕ → ℕ → ℕ → Option ℕ
 leads_to old new p a = join_number (run_number (stepped old (old_at p) a)) (run_number (stepped new (new_at p) a))
 
 -- ---- a run, as the code numbers it
@@ -61,12 +61,10 @@ number_at {r} {k} e = rw e (omega arith)
 
 -- ---- what is asked at the calls, and the ways out
 
-module _ (b : List ℕ) (r : Run) {x : Bool} where
-  pub stops_start : r ≡ Start → x ≡ ended b (state_of r) → eqb (cell b 0) 0 || x ≡ stops b (state_of r)
-  stops_start e d = rw (d, e)
-
-  pub stops_at : {k : ℕ} → r ≡ At k → x ≡ ended b (state_of r) → eqb (cell b 0) 0 || x ≡ stops b (state_of r)
-  stops_at e d = rw (d, e)
+pub stops_is : (b : List ℕ) (o : Maybe State) {g x : Bool} → g ≡ goes_on o → x ≡ ended b o → g && (eqb (cell b 0) 0 || x) ≡ stops b o
+stops_is b none e d = rw e
+stops_is b (some start) e d = rw (e, d)
+stops_is b (some (at k)) e d = rw (e, d)
 
 module _ {old new : List ℕ} {p : ℕ} (g : Paired old new p) where
   pub old_run : (r : Run) → state_of r ≡ old_at p → Ready old × (inside old (state_of r) ≡ true)
@@ -88,7 +86,7 @@ inside_small b few Lost i = omega arith
 pub stepped_small : {b : List ℕ} {q r : Run} {a : ℕ} → Ready b → Stepped b q a r → run_number (state_of r) < 66
 stepped_small {b} {q} {r} g s = inside_small b g.few r s.within
 
-stepped_is : (b : List ℕ) (q r : Run) (a : ℕ) {o : Option State} → state_of q ≡ o → Stepped b q a r → state_of r ≡ stepped b o a
+stepped_is : (b : List ℕ) (q r : Run) (a : ℕ) {o : Maybe State} → state_of q ≡ o → Stepped b q a r → state_of r ≡ stepped b o a
 stepped_is b q r a {o} e s = s.same ∙ ap (λ x. stepped b x a) e
 
 module _ (old new : List ℕ) (p a : ℕ) (q r : Run) {w : ℕ} (e : state_of q ≡ old_at p) (d : Stepped old q a r) (n : w ≡ run_number (state_of r)) where
@@ -96,10 +94,10 @@ module _ (old new : List ℕ) (p a : ℕ) (q r : Run) {w : ℕ} (e : state_of q 
   was = n ∙ ap run_number (stepped_is old q r a e d)
 
   -- the old run has no next occurrence
-  pub leads_nowhere : w ≡ 0 → sequence_places ≡ leads_to old new p a
+  pub leads_nowhere : w ≡ 0 → None ≡ leads_to old new p a
   unfolding leads_to
   leads_nowhere z = rw (← was, z)
 
-  pub leads_on : (s t : Run) {i : ℕ} → state_of s ≡ new_at p → Stepped new s a t → i ≡ run_number (state_of t) → ¬ (w ≡ 0) → (w - 1) * 66 + i ≡ leads_to old new p a
+  pub leads_on : (s t : Run) {i : ℕ} → state_of s ≡ new_at p → Stepped new s a t → i ≡ run_number (state_of t) → ¬ (w ≡ 0) → Some ((w - 1) * 66 + i) ≡ leads_to old new p a
   unfolding leads_to
   leads_on s t f g m z = (rw (ne_eqb w 0 z)) ∙ ap₂ join_number was (m ∙ ap run_number (stepped_is new s t a f g))

@@ -9,7 +9,7 @@ ghost use Rattle.table.specs.Run.{state_of, inside, Ready};
 ghost use Rattle.inclusion_laws.specs.Pairs.{run_number, stops};
 ghost use Rattle.pairs.specs.Number.{run_at, old_at, new_at, leads_to, Paired};
 
-use paper::{EMPTY, KIND_AT, SEQUENCE_PLACES};
+use paper::{EMPTY, KIND_AT};
 use table::Run;
 
 // The states of a run of the new content: lost, the start, and 64 occurrences. One of the old content is never lost: there are 65 of it,
@@ -50,11 +50,7 @@ fn stops(block: &[u64], run: Run) -> bool
     requires run_value { inside block.now (state_of run) ≡ true }
     ensures { result ≡ stops block.now (state_of run) }
 {
-    match run {
-        Run::Lost => false,
-        Run::Start => (block[KIND_AT] == EMPTY as u64) | run.may_end(block),
-        Run::At(_) => (block[KIND_AT] == EMPTY as u64) | run.may_end(block),
-    }
+    run.goes_on() & ((block[KIND_AT] == EMPTY as u64) | run.may_end(block))
 }
 
 // What led to the pair is lost: the old content may end there, the new one may not.
@@ -65,15 +61,15 @@ pub fn is_losing(old: &[u64], new: &[u64], pair: u32) -> bool
     stops(old, run_of(pair / RUNS + 1)) & !stops(new, run_of(pair % RUNS))
 }
 
-// The pair to which a child leads; SEQUENCE_PLACES: the old content does not take it.
-pub fn leads(old: &[u64], new: &[u64], pair: u32, child: u32) -> u32
+// The pair to which a child leads, unless the old content does not take it.
+pub fn leads(old: &[u64], new: &[u64], pair: u32, child: u32) -> Option<u32>
     requires { Paired old.now new.now pair }
     ensures { result ≡ leads_to old.now new.now pair child }
 {
     let was = number_of(run_of(pair / RUNS + 1).step(old, child));
     if was == 0 {
-        return SEQUENCE_PLACES as u32;
+        return None;
     }
     let is = number_of(run_of(pair % RUNS).step(new, child));
-    (was - 1) * RUNS + is
+    Some((was - 1) * RUNS + is)
 }

@@ -36,6 +36,7 @@ pub mod Groups
 pub mod Inclusion
 -- "Answer numbers": which numbers a call gives, and what each call does
 pub mod Answers
+pub mod Codes
 pub mod Calls
 -- "The small shade": the edit program, the schema and the document
 pub mod Program

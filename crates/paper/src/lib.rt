@@ -4,6 +4,9 @@
 // Assumes nothing.
 #![tactic(auto)]
 
+ghost use Rattle.std.specs.Prelude.{◌≡◌};
+ghost use Rattle.paper.specs.Codes.{number_of, Operates};
+
 // ---- The paper's numbers, for code, under the names of include/shrikemuff.h; specs/ has them for definitions.
 
 // A document or a piece has at most so many tokens, and is at most so deep, with the root at 1.
@@ -179,6 +182,93 @@ pub const DTD_TEXT: u32 = 14;
 pub const COUNTS: u32 = 15;
 
 pub const NOT_COMPARED: u32 = 16;
+
+// ---- Why a call is refused, and what an edit does
+
+// Each is the answer of its number.
+#[derive(Clone, Copy)]
+pub enum Refusal {
+    Broken = 1,
+    Schema = 2,
+    Ambiguous = 3,
+    Shape = 4,
+    Room = 5,
+    Place = 6,
+    Name = 7,
+    Attributes = 8,
+    Content = 9,
+    Root = 10,
+    IdTwice = 11,
+    NoId = 12,
+    Table = 13,
+    DtdText = 14,
+    Counts = 15,
+    NotCompared = 16,
+}
+
+impl Refusal {
+    // Its number among the answers.
+    pub fn number(self) -> u32
+        ensures { result ≡ number_of self }
+    {
+        self as u32
+    }
+}
+
+// A fault of a document: which rule is broken, and the place.
+#[derive(Clone, Copy)]
+pub struct Fault {
+    pub refusal: Refusal,
+    pub place: u32,
+}
+
+// The operations of an edit.
+#[derive(Clone, Copy)]
+pub enum Operation {
+    Insert = 1,
+    Remove = 2,
+    Replace = 3,
+    Set = 4,
+    Drop = 5,
+}
+
+// A number that is no operation.
+#[derive(Clone, Copy)]
+pub struct NoOperation;
+
+impl TryFrom<u32> for Operation {
+    type Error = NoOperation;
+
+    ghost try_from_gives = { Operates };
+
+    fn try_from(number: u32) -> Result<Self, NoOperation> {
+        match number {
+            1 => Ok(Operation::Insert),
+            2 => Ok(Operation::Remove),
+            3 => Ok(Operation::Replace),
+            4 => Ok(Operation::Set),
+            5 => Ok(Operation::Drop),
+            _ => Err(NoOperation),
+        }
+    }
+}
+
+// The kinds of attributes.
+#[derive(Clone, Copy, PartialEq, Eq)]
+pub enum Kind {
+    Cdata = 0,
+    Id = 1,
+    Idref = 2,
+    Idrefs = 3,
+}
+
+// Whether an attribute must be present, or has one value alone.
+#[derive(Clone, Copy, PartialEq, Eq)]
+pub enum Status {
+    Required = 0,
+    Implied = 1,
+    Fixed = 2,
+}
 
 // ---- Tokens
 

@@ -5,3 +5,5 @@ pub mod Basics
 pub mod Words
 -- The names of a set's members
 pub mod Chosen
+-- The numbers of refusals; a fault before another answer
+pub mod Codes

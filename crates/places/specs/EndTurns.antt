@@ -1,7 +1,6 @@
 -- The turns of the loops that look for an element's end, forward, and for a place's parent, backward. Assumes nothing.
-use Rattle.std.specs.Prelude.{◌≡◌, refl, Bool, true, false, cond, not, ◌&&◌, List, ℕ, zero, suc, ◌+◌, ◌-◌, ◌≤◌, ◌<◌, eqb, length, get_or, take, drop}
+use Rattle.std.specs.Prelude.{◌≡◌, refl, Bool, true, false, cond, ◌&&◌, List, ℕ, zero, suc, ◌+◌, ◌-◌, ◌≤◌, ◌<◌, eqb, length, get_or, take, drop}
 use Rattle.std.proofs.Common.{sym, ap, ap₂, ◌∙◌, add-one, arith}
-use Rattle.std.proofs.lemmas.Bool.{not-true, not-false}
 use Rattle.std.proofs.Math.Dec.{eqb-suc-zero}
 use Rattle.paper.specs.declared.Tok.{Tok}
 use Rattle.paper.specs.declared.Tok.TheVariants.{Start, End, Text, Attr, Value, Bad}
@@ -54,18 +53,8 @@ module _ (f : ℕ → Tok → ℕ) (up down : Tok → Bool) (is : (k : ℕ) (u :
   step_up : y ≡ true → k + 1 ≡ f k (tok_of t)
   step_up a = ap (λ b. cond b (k + 1) (cond (down (tok_of t)) (k - 1) k)) (sym a ∙ ey) ∙ is k (tok_of t)
 
-  module _ (a : y ≡ false) {z : Bool} (ez : z ≡ down (tok_of t)) where
-    step : cond z (k - 1) k ≡ f k (tok_of t)
-    step = ap₂ (λ b c. cond b (k + 1) (cond c (k - 1) k)) (sym a ∙ ey) ez ∙ is k (tok_of t)
-
-    step_same : not z ≡ true → k ≡ f k (tok_of t)
-    step_same b = ap (λ c. cond c (k - 1) k) (sym (not-true z b)) ∙ step
-
-    step_down : not z ≡ false → k - 1 ≡ f k (tok_of t)
-    step_down b = ap (λ c. cond c (k - 1) k) (sym (not-false z b)) ∙ step
-
-    step_none : not z ≡ false → k ≡ 0 → 0 ≡ f k (tok_of t)
-    step_none b e = omega (arith, step_down b)
+  step : y ≡ false → {z b : Bool} → z ≡ down (tok_of t) → z ≡ b → cond b (k - 1) k ≡ f k (tok_of t)
+  step a ez e = ap₂ (λ b c. cond b (k + 1) (cond c (k - 1) k)) (sym a ∙ ey) (sym e ∙ ez) ∙ is k (tok_of t)
 
 module _ (k t : ℕ) {y : Bool} where
   pub level_up : y ≡ starts (tok_of t) → y ≡ true → k + 1 ≡ level_of k (tok_of t)
@@ -75,52 +64,46 @@ module _ (k t : ℕ) {y : Bool} where
   back_up = step_up back_of ends starts back_is k t
 
   module _ (a : y ≡ false) {z : Bool} where
-    pub level_same : y ≡ starts (tok_of t) → z ≡ ends (tok_of t) → not z ≡ true → k ≡ level_of k (tok_of t)
-    level_same ey ez = step_same level_of starts ends level_is k t ey a ez
+    pub level_down : y ≡ starts (tok_of t) → z ≡ ends (tok_of t) → z ≡ true → {r : ℕ} → r ≡ k - 1 → r ≡ level_of k (tok_of t)
+    level_down ey ez e er = er ∙ step level_of starts ends level_is k t ey a ez e
 
-    pub level_down : y ≡ starts (tok_of t) → z ≡ ends (tok_of t) → not z ≡ false → k - 1 ≡ level_of k (tok_of t)
-    level_down ey ez = step_down level_of starts ends level_is k t ey a ez
+    pub level_same : y ≡ starts (tok_of t) → z ≡ ends (tok_of t) → z ≡ false → k ≡ level_of k (tok_of t)
+    level_same ey ez e = step level_of starts ends level_is k t ey a ez e
 
-    pub level_none : y ≡ starts (tok_of t) → z ≡ ends (tok_of t) → not z ≡ false → k ≡ 0 → 0 ≡ level_of k (tok_of t)
-    level_none ey ez = step_none level_of starts ends level_is k t ey a ez
+    pub back_down : y ≡ ends (tok_of t) → z ≡ starts (tok_of t) → z ≡ true → {r : ℕ} → r ≡ k - 1 → r ≡ back_of k (tok_of t)
+    back_down ey ez e er = er ∙ step back_of ends starts back_is k t ey a ez e
 
-    pub back_same : y ≡ ends (tok_of t) → z ≡ starts (tok_of t) → not z ≡ true → k ≡ back_of k (tok_of t)
-    back_same ey ez = step_same back_of ends starts back_is k t ey a ez
-
-    pub back_down : y ≡ ends (tok_of t) → z ≡ starts (tok_of t) → not z ≡ false → k - 1 ≡ back_of k (tok_of t)
-    back_down ey ez = step_down back_of ends starts back_is k t ey a ez
-
-    pub back_none : y ≡ ends (tok_of t) → z ≡ starts (tok_of t) → not z ≡ false → k ≡ 0 → 0 ≡ back_of k (tok_of t)
-    back_none ey ez = step_none back_of ends starts back_is k t ey a ez
+    pub back_same : y ≡ ends (tok_of t) → z ≡ starts (tok_of t) → z ≡ false → k ≡ back_of k (tok_of t)
+    back_same ey ez e = step back_of ends starts back_is k t ey a ez e
 
 -- ---- before place i, at level k below the open element
 
-pub record Ending (buf : List ℕ) (used place i k : ℕ) : Type 0 where
-  pub here : i ≤ used
+pub record Ending (doc : List ℕ) (place i k : ℕ) : Type 0 where
+  pub here : i ≤ length doc
   pub low : k ≤ i
-  pub left : end_of (toks (take used buf)) place ≡ i + close k (drop i (toks (take used buf)))
+  pub left : end_of (toks doc) place ≡ i + close k (drop i (toks doc))
 
-pub ending_begin : (buf : List ℕ) (used place : ℕ) → place < used → Ending buf used place (place + 1) 0
-ending_begin buf used place h = record { here = omega arith; low = omega arith; left = end_begin (toks (take used buf)) place }
+pub ending_begin : (doc : List ℕ) (place : ℕ) → place < length doc → Ending doc place (place + 1) 0
+ending_begin doc place h = record { here = omega arith; low = omega arith; left = end_begin (toks doc) place }
 
-module _ (buf : List ℕ) (used place i k : ℕ) (l : used ≤ length buf) (c : Ending buf used place i k) where
-  pub ending_none : used ≤ i → i ≡ end_of (toks (take used buf)) place
-  ending_none h = sym (c.left ∙ close_out buf used i k (omega arith))
+module _ (doc : List ℕ) (place i k : ℕ) (c : Ending doc place i k) where
+  pub ending_none : length doc ≤ i → length doc ≡ end_of (toks doc) place
+  ending_none h = let z : length doc ≡ i = omega (arith, c.here) in z ∙ sym (c.left ∙ close_out doc i k h)
 
-  module _ {y : Bool} (h : i < used) (ey : y ≡ ends (tok_of (get_or buf i 0))) where
-    end_test : y && eqb k 0 ≡ closes_of k (tok_of (get_or buf i 0))
-    end_test = ap (λ b. b && eqb k 0) ey ∙ closes_is k (tok_of (get_or buf i 0))
+  module _ {y : Bool} (h : i < length doc) (ey : y ≡ ends (tok_of (get_or doc i 0))) where
+    end_test : y && eqb k 0 ≡ closes_of k (tok_of (get_or doc i 0))
+    end_test = ap (λ b. b && eqb k 0) ey ∙ closes_is k (tok_of (get_or doc i 0))
 
-    pub ending_found : y && eqb k 0 ≡ true → i ≡ end_of (toks (take used buf)) place
-    ending_found e = sym (c.left ∙ close_stop buf used i k h l refl (sym end_test ∙ e))
+    pub ending_found : y && eqb k 0 ≡ true → i ≡ end_of (toks doc) place
+    ending_found e = sym (c.left ∙ close_stop doc i k h refl (sym end_test ∙ e))
 
-    pub ending_turn : y && eqb k 0 ≡ false → {k' : ℕ} → k' ≡ level_of k (tok_of (get_or buf i 0)) → Ending buf used place (i + 1) k'
+    pub ending_turn : y && eqb k 0 ≡ false → {k' : ℕ} → k' ≡ level_of k (tok_of (get_or doc i 0)) → Ending doc place (i + 1) k'
     ending_turn e ek =
         rw ek
         (record {
           here = omega arith;
-          low = omega (arith, level_le k (tok_of (get_or buf i 0)));
-          left = c.left ∙ close_go buf used i k h l refl (sym end_test ∙ e);
+          low = omega (arith, c.low, level_le k (tok_of (get_or doc i 0)));
+          left = c.left ∙ close_go doc i k h refl (sym end_test ∙ e);
         })
 
 -- ---- from place i on, up to `at`, k ends have no start

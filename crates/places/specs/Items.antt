@@ -1,16 +1,16 @@
 -- The token at a place, and the text or element that begins there. Assumes nothing.
-use Rattle.std.specs.Prelude.{◌≡◌, refl, Bool, true, false, length, get_or, take}
+use Rattle.std.specs.Prelude.{◌≡◌, refl, Bool, true, false, length, get_or}
 use Rattle.std.proofs.Math.Path.{sym, ap}
-use Rattle.std.proofs.Common.{◌∙◌, drop-drop, length-take-le, get_or-take}
+use Rattle.std.proofs.Common.{◌∙◌, drop-drop}
+use Rattle.std.proofs.lemmas.List.{length-map}
 use mathlib.Core.List.{List, [], ◌∷◌}
 use Prim.Native.Nat.{ℕ, zero, suc, ◌+◌, ◌-◌, ◌≤◌, ◌<◌, suc-le-suc}
 use native.Mathlib.Omega.{arith}
-use Rattle.std.proofs.Math.ListN.{drop, length-drop, get_or-eq_default}
+use Rattle.std.proofs.Math.ListN.{drop, length-drop}
 use Rattle.paper.specs.declared.Tok.{Tok}
 use Rattle.paper.specs.declared.Tok.TheVariants.{Start, End, Text, Attr, Value, Bad}
 use Rattle.paper.specs.Tokens.{tok_of, toks, starts, close, end_of, item_size}
 use Rattle.basic_laws.specs.Bools.{clash}
-use Rattle.shape_laws.specs.Bridge.{length_toks}
 use Rattle.tokens.specs.Sorts.{text_tok}
 
 -- ---- the token that begins d; Bad, where none does
@@ -25,13 +25,6 @@ head_is [] (suc p) = refl
 head_is (x ∷ l) zero = refl
 head_is (x ∷ l) (suc p) = head_is l p
 
--- the word at a place; 0, where none stands
-pub at_past : (buf : List ℕ) (used place : ℕ) → used ≤ length buf → used ≤ place → 0 ≡ get_or (take used buf) place 0
-at_past buf used place l h = sym (get_or-eq_default (take used buf) 0 {n = place} (omega (arith, length-take-le used buf l)))
-
-pub at_here : (buf : List ℕ) (used place : ℕ) → place < used → get_or buf place 0 ≡ get_or (take used buf) place 0
-at_here buf used place h = sym (get_or-take used buf place 0 h)
-
 -- a token stands inside the list
 token_within : (P : Tok → Bool) → P Bad ≡ false → (l : List ℕ) (p : ℕ) → P (tok_of (get_or l p 0)) ≡ true → p < length l
 token_within P bad [] zero e = clash e bad
@@ -39,9 +32,9 @@ token_within P bad [] (suc p) e = clash e bad
 token_within P bad (x ∷ l) zero e = omega arith
 token_within P bad (x ∷ l) (suc p) e = omega (arith, token_within P bad l p e)
 
-module _ (buf : List ℕ) (used place : ℕ) (l : used ≤ length buf) {t : ℕ} (et : t ≡ get_or (take used buf) place 0) {y : Bool} (ey : y ≡ starts (tok_of t)) (e : y ≡ true) where
-  pub start_within : place < used
-  start_within = omega (arith, token_within starts refl (take used buf) place (ap (λ x. starts (tok_of x)) (sym et) ∙ sym ey ∙ e), length-take-le used buf l)
+module _ (doc : List ℕ) (place : ℕ) {t : ℕ} (et : t ≡ get_or doc place 0) {y : Bool} (ey : y ≡ starts (tok_of t)) (e : y ≡ true) where
+  pub start_within : place < length doc
+  start_within = token_within starts refl doc place (ap (λ x. starts (tok_of x)) (sym et) ∙ sym ey ∙ e)
 
 -- ---- an end stands behind its start, and not past the length
 
@@ -55,16 +48,16 @@ close_le k (Attr n ∷ d) = suc-le-suc (close_le k d)
 close_le k (Value n ∷ d) = suc-le-suc (close_le k d)
 close_le k (Bad ∷ d) = suc-le-suc (close_le k d)
 
-module _ (buf : List ℕ) (used place : ℕ) {e : ℕ} (ee : e ≡ end_of (toks (take used buf)) place) where
+module _ (doc : List ℕ) (place : ℕ) {e : ℕ} (ee : e ≡ end_of (toks doc) place) where
   pub end_behind : place ≤ e
   unfolding end_of
   end_behind = omega arith
 
-  pub end_within : used ≤ length buf → place < used → e ≤ used
+  pub end_within : place < length doc → e ≤ length doc
   unfolding end_of
-  end_within l h =
-      let d : List Tok = toks (take used buf) in
-      omega (arith, close_le 0 (drop (suc place) d), length-drop (suc place) d, length_toks buf used l)
+  end_within h =
+      let d : List Tok = toks doc in
+      omega (arith, close_le 0 (drop (suc place) d), length-drop (suc place) d, length-map doc tok_of)
 
 -- ---- the item, by the token that begins it
 
@@ -95,14 +88,14 @@ size_none (Attr n ∷ d) a b = refl
 size_none (Value n ∷ d) a b = refl
 size_none (Bad ∷ d) a b = refl
 
-module _ (buf : List ℕ) (used place : ℕ) {t : ℕ} (et : t ≡ get_or (take used buf) place 0) {y : Bool} (ey : y ≡ starts (tok_of t)) where
-  here : tok_of t ≡ head_tok (drop place (toks (take used buf)))
-  here = ap tok_of et ∙ head_is (take used buf) place
+module _ (doc : List ℕ) (place : ℕ) {t : ℕ} (et : t ≡ get_or doc place 0) {y : Bool} (ey : y ≡ starts (tok_of t)) where
+  here : tok_of t ≡ head_tok (drop place (toks doc))
+  here = ap tok_of et ∙ head_is doc place
 
-  pub item_start : y ≡ true → {e : ℕ} → e ≡ end_of (toks (take used buf)) place → e - place + 1 ≡ item_size (drop place (toks (take used buf)))
+  pub item_start : y ≡ true → {e : ℕ} → e ≡ end_of (toks doc) place → e - place + 1 ≡ item_size (drop place (toks doc))
   unfolding end_of
   item_start a ee =
-      let d : List Tok = toks (take used buf) in
+      let d : List Tok = toks doc in
       let z : place + 1 ≡ suc place = omega arith in
       omega (
         arith,
@@ -111,9 +104,9 @@ module _ (buf : List ℕ) (used place : ℕ) {t : ℕ} (et : t ≡ get_or (take 
       )
 
   module _ (a : y ≡ false) {z : Bool} (ez : z ≡ text_tok (tok_of t)) where
-    pub item_text : z ≡ true → 1 ≡ item_size (drop place (toks (take used buf)))
-    item_text b = size_text (drop place (toks (take used buf))) (ap text_tok (sym here) ∙ sym ez ∙ b)
+    pub item_text : z ≡ true → 1 ≡ item_size (drop place (toks doc))
+    item_text b = size_text (drop place (toks doc)) (ap text_tok (sym here) ∙ sym ez ∙ b)
 
-    pub item_none : z ≡ false → 0 ≡ item_size (drop place (toks (take used buf)))
+    pub item_none : z ≡ false → 0 ≡ item_size (drop place (toks doc))
     item_none b =
-        size_none (drop place (toks (take used buf))) (ap starts (sym here) ∙ sym ey ∙ a) (ap text_tok (sym here) ∙ sym ez ∙ b)
+        size_none (drop place (toks doc)) (ap starts (sym here) ∙ sym ey ∙ a) (ap text_tok (sym here) ∙ sym ez ∙ b)

@@ -1,6 +1,6 @@
 // Questions about one place of a document: its token, the end of an element, the size of an item, the parent.
 //
-// Every call holds of any tokens, with shape or without; what it asks is that lengths and places lie in the slice.
+// Every call holds of any tokens, with shape or without; what it asks is that places lie in the document.
 // Assumes nothing.
 #![tactic(auto)]
 
@@ -11,14 +11,10 @@ ghost use Rattle.shape_laws.specs.Touch.{back_of, parent_of};
 use tokens::{is_end, is_start, is_text};
 
 // The token at a place; 0, which is none, where no token stands.
-pub fn token_at(doc: &[u32], used: usize, place: usize) -> u32
-    requires { used ≤ length doc.now }
-    ensures { result ≡ get_or (take used doc.now) place 0 }
+pub fn token_at(doc: &[u32], place: usize) -> u32
+    ensures { result ≡ get_or doc.now place 0 }
 {
-    if used <= place {
-        return 0;
-    }
-    doc[place]
+    doc.get(place).copied().unwrap_or(0)
 }
 
 // The level after a token.
@@ -29,41 +25,35 @@ pub fn level_after(k: usize, t: u32) -> usize
     if is_start(t) {
         return k + 1;
     }
-    if !is_end(t) {
-        return k;
+    if is_end(t) {
+        return k.saturating_sub(1);
     }
-    if k == 0 {
-        return 0;
-    }
-    k - 1
+    k
 }
 
-// The place of the end of the element that starts at a place; `used`, where it has none.
-pub fn end_of(doc: &[u32], used: usize, place: usize) -> usize
-    requires { (place < used) × (used ≤ length doc.now) }
-    ensures { result ≡ end_of (toks (take used doc.now)) place }
+// The place of the end of the element that starts at a place; the length, where it has none.
+pub fn end_of(doc: &[u32], place: usize) -> usize
+    requires { place < length doc.now }
+    ensures { result ≡ end_of (toks doc.now) place }
 {
     let mut k: usize = 0;
-    let mut i = place + 1;
-    while i < used {
+    for i in place + 1..doc.len() {
         let t = doc[i];
         if is_end(t) & (k == 0) {
             return i;
         }
         k = level_after(k, t);
-        i += 1;
     }
-    i
+    doc.len()
 }
 
 // The length of the text or element at a place; 0, where none begins.
-pub fn item_size(doc: &[u32], used: usize, place: usize) -> usize
-    requires { used ≤ length doc.now }
-    ensures { result ≡ item_size (drop place (toks (take used doc.now))) }
+pub fn item_size(doc: &[u32], place: usize) -> usize
+    ensures { result ≡ item_size (drop place (toks doc.now)) }
 {
-    let t = token_at(doc, used, place);
+    let t = token_at(doc, place);
     if is_start(t) {
-        return end_of(doc, used, place) - place + 1;
+        return end_of(doc, place) - place + 1;
     }
     if is_text(t) {
         return 1;
@@ -79,13 +69,10 @@ fn back(k: usize, t: u32) -> usize
     if is_end(t) {
         return k + 1;
     }
-    if !is_start(t) {
-        return k;
+    if is_start(t) {
+        return k.saturating_sub(1);
     }
-    if k == 0 {
-        return 0;
-    }
-    k - 1
+    k
 }
 
 // The place of the start of the innermost element that is open at a place; the place itself, where there is none.
@@ -94,9 +81,7 @@ pub fn parent_of(doc: &[u32], at: usize) -> usize
     ensures { result ≡ parent_of (toks (take at doc.now)) }
 {
     let mut k: usize = 0;
-    let mut i = at;
-    while 0 < i {
-        i -= 1;
+    for i in (0..at).rev() {
         let t = doc[i];
         if is_start(t) & (k == 0) {
             return i;

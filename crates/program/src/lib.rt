@@ -22,7 +22,7 @@ ghost use Rattle.program.specs.Stages.{given};
 use checks::check;
 use edit_lines::{OUTPUT, put_edits};
 use lines::{put_line, put_stop};
-use paper::{DONE, MOST_ELEMENTS, MOST_FILE, MOST_TOKENS, ROOM, TABLE_WORDS};
+use paper::{DONE, MOST_ELEMENTS, MOST_FILE, MOST_TOKENS, Refusal, TABLE_WORDS};
 
 // "After a check that isn't 0 nothing more is printed." Item 7: the counts are "written by a check that says valid and carried along by edits".
 fn put_check(
@@ -36,12 +36,13 @@ fn put_check(
     requires { (proper table.now ≡ true) × (length file.now ≤ most_file) × (length out.old ≡ output_room) }
     ensures { Put out.old 0 (text (check_lines (of_table table.now) doc.old used (checking (of_table table.now) doc.old used) file.now)) result out.new }
 {
-    let v = check(table, doc, used, counts);
-    let next = put_line(out, 0, 0, v.number, v.place, used);
-    if v.number != DONE {
-        return next;
+    match check(table, doc, used, counts) {
+        Err(fault) => put_line(out, 0, 0, fault.refusal.number(), fault.place, used),
+        Ok(()) => {
+            let next = put_line(out, 0, 0, DONE, 0, used);
+            put_edits(table, doc, used, file, out, next, counts)
+        }
     }
-    put_edits(table, doc, used, file, out, next, counts)
 }
 
 // The document file is read into a buffer of 8,192 zeros, and the counts beside it are zeros.
@@ -50,12 +51,11 @@ fn put_document(table: &[u64], doc: &[u8], edits: &[u8], out: &mut [u8]) -> usiz
     ensures { Put out.old 0 (text (document_lines (of_table table.now) (reading doc.now places) edits.now)) result out.new }
 {
     let mut tokens = [0u32; MOST_TOKENS];
-    let c = docfile::read(doc, &mut tokens);
-    if c.number != DONE {
-        return put_stop(out, 0, c.number);
-    }
+    let used = match docfile::read_tokens(doc, &mut tokens) {
+        Ok(count) => count as usize,
+        Err(refusal) => return put_stop(out, 0, refusal),
+    };
     let mut counts = [0i32; MOST_ELEMENTS];
-    let used = c.count as usize;
     put_check(table, &mut tokens, used, edits, out, &mut counts)
 }
 
@@ -65,11 +65,10 @@ fn put_schema(schema: &[u8], doc: &[u8], edits: &[u8], out: &mut [u8]) -> usize
     ensures { Put out.old 0 (text (schema_lines (schema_of schema.now) doc.now edits.now)) result out.new }
 {
     let mut table = [0u64; TABLE_WORDS];
-    let number = schema::translate(schema, &mut table);
-    if number != DONE {
-        return put_stop(out, 0, number);
+    match schema::translate(schema, &mut table) {
+        Ok(()) => put_document(&table, doc, edits, out),
+        Err(refusal) => put_stop(out, 0, refusal),
     }
-    put_document(&table, doc, edits, out)
 }
 
 // Whether no file is too long.
@@ -91,10 +90,10 @@ pub fn output(
     ensures { Put out.old 0 (printed (given opened schema.now) (given opened doc.now) (given opened edits.now)) result out.new }
 {
     if !opened {
-        return put_stop(out, 0, ROOM);
+        return put_stop(out, 0, Refusal::Room);
     }
     if !short(schema, doc, edits) {
-        return put_stop(out, 0, ROOM);
+        return put_stop(out, 0, Refusal::Room);
     }
     put_schema(schema, doc, edits, out)
 }

@@ -25,10 +25,8 @@ fn all_below(words: &[u64], bound: u64) -> bool
     ensures { result ≡ all (λ a. ltb a bound) words.now }
 {
     let mut ok = true;
-    let mut i = 0;
-    while i < words.len() {
-        ok = ok & (words[i] < bound);
-        i += 1;
+    for word in words {
+        ok &= *word < bound;
     }
     ok
 }
@@ -114,13 +112,10 @@ fn proper_blocks(table: &[u64], elements: u64) -> bool
     requires { (length table.now ≡ table_length) × (elements ≤ most_elements) }
     ensures { result ≡ proper_blocks table.now elements }
 {
-    let count = elements as usize;
-    let mut e = 0;
-    while e < count {
+    for e in 0..elements as usize {
         if !proper_block(elements, block_of(table, e)) {
             return false;
         }
-        e += 1;
     }
     true
 }
@@ -130,12 +125,10 @@ fn unused_from(table: &[u64], elements: u64) -> bool
     requires { (length table.now ≡ table_length) × (elements ≤ most_elements) }
     ensures { result ≡ rest_zero table.now elements }
 {
-    let mut e = elements as usize;
-    while e < MOST_ELEMENTS {
+    for e in elements as usize..MOST_ELEMENTS {
         if !all_zero(block_of(table, e)) {
             return false;
         }
-        e += 1;
     }
     true
 }

@@ -1,9 +1,10 @@
 -- What a reader comes to at a place of the file: it goes on, and the value and the place after it are told; or it stops, and the
 -- number of the refusal is told. Assumes nothing.
-use Rattle.std.specs.Prelude.{◌≡◌, refl, List, [], ◌∷◌, ◌++◌, ℕ, ◌≤◌, length, drop}
+use Rattle.std.specs.Prelude.{◌≡◌, refl, Result, Ok, Err, IsErrAnd, List, [], ◌∷◌, ◌++◌, ℕ, ◌≤◌, length, drop}
 use Rattle.std.proofs.Common.{sym, ap, append_assoc}
 use Rattle.paper.specs.Schema.{Parsed, stop, ok, pure, onward}
-use Rattle.reading.specs.declared.Place.{Place}
+use Rattle.paper.specs.Codes.{number_of}
+use Rattle.paper.specs.declared.Refusal.{Refusal}
 
 -- it went on, with a value that has P, to a place of the file
 pub record Went {A : Type 0} (o : Parsed A) (file : List ℕ) (next : ℕ) (P : A → Type 0) : Type 0 where
@@ -12,21 +13,15 @@ pub record Went {A : Type 0} (o : Parsed A) (file : List ℕ) (next : ℕ) (P : 
   pub within : next ≤ length file
   pub holds : P value
 
--- the number is 0 and it went on, or the number is that of the refusal
-pub record Ended {A : Type 0} (o : Parsed A) (file : List ℕ) (n next : ℕ) (P : A → Type 0) : Type 0 where
-  pub went : n ≡ 0 → Went o file next P
-  pub stopped : (n ≡ 0 → ⊥) → o ≡ stop n
+-- it went on to the place after what was read, of which P tells the value; or it stopped with the number of the refusal
+abbrev pub Ended : {A R : Type 0} → Parsed A → List ℕ → (R → ℕ) → (R → A → Type 0) → Result R Refusal → Type 0
+Ended o file next P (Ok r) = Went o file (next r) (P r)
+Ended o file next P (Err e) = o ≡ stop (number_of e)
 
-module _ {A : Type 0} {o : Parsed A} {file : List ℕ} {n next : ℕ} {P : A → Type 0} where
-  pub ended_stop : (n ≡ 0 → ⊥) → o ≡ stop n → Ended o file n next P
-  ended_stop h e = record { went = λ z. absurd (h z); stopped = λ z. e }
-
-  pub ended_went : n ≡ 0 → Went o file next P → Ended o file n next P
-  ended_went h w = record { went = λ z. w; stopped = λ z. absurd (z h) }
-
--- nothing is taken
-abbrev pub no_place : ℕ → Place
-no_place n = record { number = n; next = 0 }
+-- the refusal that a `?` hands on
+pub handed : {A E : Type 0} {r : Result A E} {e : E} → IsErrAnd r (λ x. x ≡ e) → r ≡ Err e
+handed {r = Ok x} h = absurd h
+handed {r = Err x} h = ap Err h
 
 -- ---- several in a row
 

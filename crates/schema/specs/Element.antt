@@ -1,25 +1,26 @@
 -- An element in its block. Assumes nothing.
-use Rattle.std.specs.Prelude.{◌≡◌, refl, true, List, ◌++◌, ℕ, ◌≤◌, ◌<◌, length, drop, set, replicate}
+use Rattle.std.specs.Prelude.{◌≡◌, refl, Result, true, false, List, ◌++◌, ℕ, ◌≤◌, ◌<◌, length, drop, set, replicate}
 use Rattle.std.proofs.Common.{ap, ◌∙◌, arith, length-set}
 use Rattle.paper.specs.Basics.{most_attributes}
-use Rattle.paper.specs.Schema.{Content, Attribute, Element, content_as, element}
+use Rattle.paper.specs.Schema.{Content, Attribute, Element, stop, content_as, attributes_from, element}
 use Rattle.paper.specs.Table.{block_length, entries, kind_at, allowed_at, required_at, id_at, idref_at, idrefs_at, count_at, kind_number, content_numbers, set_of, of_kind, is_required, block_of}
-use Rattle.reading.specs.declared.Step.{Step}
-use Rattle.reading.specs.declared.Place.{Place}
-use Rattle.reading.specs.Ended.{Went, Ended, ended_stop, ended_went, no_place}
-use Rattle.reading.specs.Number.{Numbered, Value}
+use Rattle.paper.specs.Codes.{number_of}
+use Rattle.paper.specs.declared.Refusal.{Refusal}
+use Rattle.numbers.specs.declared.Num.{Num}
+use Rattle.reading.specs.Ended.{Went, Ended}
+use Rattle.reading.specs.Number.{Value, Refused}
 use Rattle.attlist.specs.declared.Attributes.{Attributes}
-use Rattle.attlist.specs.Attributes.{SetsOf, EntriesOf, AttributesAt}
-use Rattle.contentspec.specs.Content.{Cells, ContentIn}
+use Rattle.attlist.specs.Attributes.{SetsOf, EntriesOf}
+use Rattle.contentspec.specs.Content.{Cells}
 
 -- the block of an element, and the entries of its attributes behind those that were held
 pub record BlockOf (e : ℕ) (block before after : List ℕ) (x : Element) : Type 0 where
   pub cells : block ≡ block_of x
   pub entered : EntriesOf e x.attributes before after
 
-abbrev pub ElementIn : ℕ → ℕ → List ℕ → ℕ → Place → (block before after : List ℕ) → Type 0
-ElementIn E e file at r block before after =
-    Ended (element E (length (entries before)) (drop at file)) file r.number r.next (BlockOf e block before after)
+abbrev pub ElementIn : ℕ → ℕ → List ℕ → ℕ → (block before after : List ℕ) → Result ℕ Refusal → Type 0
+ElementIn E e file at block before after =
+    Ended (element E (length (entries before)) (drop at file)) file (λ next. next) (λ next. BlockOf e block before after)
 
 -- the block with the kind and the sets
 abbrev pub set_cells : ℕ → Attributes → List ℕ → List ℕ
@@ -50,48 +51,29 @@ cells_are {kind} {b} {c} {l} {s} p q = go p.cells p.same_kind q.allowed q.requir
         → set (set (set (set (set (set b 0 k) 1 u) 2 v) 3 w) 4 x) 5 y ≡ block_of (record { content = c; attributes = l })
     go e f g h i j m = rw (e, ← f, g, h, i, j, m)
 
-module _ (E e : ℕ) (file : List ℕ) (at : ℕ) (f : List ℕ) {k : Step} (p : Numbered 0 2 file at k) where
-  pub element_kind : {r : Place} (b g : List ℕ) → (k.number ≡ 0 → ⊥) → r ≡ no_place k.number → ElementIn E e file at r b f g
-  element_kind b g z q = rw q (ended_stop z (rw (p.stopped z)))
+module _ (E e : ℕ) (file : List ℕ) (at : ℕ) (f : List ℕ) where
+  pub element_kind : (x : Refusal) → Refused 0 2 file at x → element E (length (entries f)) (drop at file) ≡ stop (number_of x)
+  element_kind x p = rw p.stopped
 
-  module _ (z : k.number ≡ 0) where
-    kind : Value 0 2 file at k
-    kind = p.went z
+  module _ {k : Num} (kind : Value 0 2 file at k) where
+    pub element_content : (x : Refusal) → content_as E k.value (drop k.next file) ≡ stop (number_of x) → element E (length (entries f)) (drop at file) ≡ stop (number_of x)
+    element_content x q = rw (kind.reads, q)
 
-    pub kind_within : k.next ≤ length file
-    kind_within = kind.within
+    module _ {next : ℕ} {b : List ℕ} (content : Went (content_as E k.value (drop k.next file)) file next (Cells k.value b)) where
+      pub element_count : (x : Refusal) → Refused 0 most_attributes file next x → element E (length (entries f)) (drop at file) ≡ stop (number_of x)
+      element_count x u = rw (kind.reads, content.reads, u.stopped)
 
-    pub kind_low : k.value ≤ 2
-    kind_low = kind.high
+      module _ {n : Num} (count : Value 0 most_attributes file next n) where
+        pub element_attributes : (x : Refusal) → attributes_from n.value 0 false (length (entries f)) (drop n.next file) ≡ stop (number_of x)
+            → element E (length (entries f)) (drop at file) ≡ stop (number_of x)
+        element_attributes x v = rw (kind.reads, content.reads, count.reads, v)
 
-    module _ {c : Place} {b : List ℕ} (q : ContentIn E k.value file k.next c b) where
-      pub element_content : {r : Place} (g : List ℕ) → (c.number ≡ 0 → ⊥) → r ≡ no_place c.number → ElementIn E e file at r b f g
-      element_content g y d = rw d (ended_stop y (rw (kind.reads, q.stopped y)))
-
-      module _ (y : c.number ≡ 0) {n : Step} (u : Numbered 0 most_attributes file c.next n) where
-        content : Went (content_as E k.value (drop k.next file)) file c.next (Cells k.value b)
-        content = q.went y
-
-        pub element_count : {r : Place} (g : List ℕ) → (n.number ≡ 0 → ⊥) → r ≡ no_place n.number → ElementIn E e file at r b f g
-        element_count g x d = rw d (ended_stop x (rw (kind.reads, content.reads, u.stopped x)))
-
-        module _ (x : n.number ≡ 0) where
-          number_of : Value 0 most_attributes file c.next n
-          number_of = u.went x
-
-          pub attributes_within : n.next ≤ length file
-          attributes_within = number_of.within
-
-          module _ {s : Attributes} {g : List ℕ} (v : AttributesAt n.value e file n.next s f g) where
-            pub element_attributes : {r : Place} → (s.number ≡ 0 → ⊥) → r ≡ no_place s.number → ElementIn E e file at r b f g
-            element_attributes w d = rw d (ended_stop w (rw (kind.reads, content.reads, number_of.reads, v.stopped w)))
-
-            pub element_put : {a : List ℕ} → s.number ≡ 0 → a ≡ set_cells k.value s b → ElementIn E e file at (record { number = 0; next = s.next }) a f g
-            element_put w d =
-                let l = v.went w in
-                ended_went refl (record {
-                  value = record { content = content.value; attributes = l.value };
-                  reads = rw (kind.reads, content.reads, number_of.reads, l.reads);
-                  within = l.within;
-                  holds = record { cells = d ∙ cells_are content.holds l.holds.0; entered = l.holds.1 };
-                })
+        pub element_put : {s : Attributes} {a g : List ℕ}
+            → Went (attributes_from n.value 0 false (length (entries f)) (drop n.next file)) file s.next (λ l. SetsOf l s × EntriesOf e l f g)
+            → a ≡ set_cells k.value s b → Went (element E (length (entries f)) (drop at file)) file s.next (BlockOf e a f g)
+        element_put l d = record {
+          value = record { content = content.value; attributes = l.value };
+          reads = rw (kind.reads, content.reads, count.reads, l.reads);
+          within = l.within;
+          holds = record { cells = d ∙ cells_are content.holds l.holds.0; entered = l.holds.1 };
+        }

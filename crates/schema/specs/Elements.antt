@@ -1,16 +1,17 @@
 -- The elements in a table, one block after another. Assumes nothing.
-use Rattle.std.specs.Prelude.{◌≡◌, refl, List, [], ◌∷◌, ◌++◌, map, ℕ, zero, suc, ◌+◌, ◌-◌, ◌*◌, ◌≤◌, ◌<◌, length, take, drop, get_or, replicate}
+use Rattle.std.specs.Prelude.{◌≡◌, refl, Result, List, [], ◌∷◌, ◌++◌, map, ℕ, zero, suc, ◌+◌, ◌-◌, ◌*◌, ◌≤◌, ◌<◌, length, take, drop, get_or, replicate}
 use Rattle.std.proofs.Common.{sym, ap, ap₂, ◌∙◌, append_assoc, append-nil, arith, length-append, take_at, drop_at}
 use borrow.Rule.Slice.PartMut.{put_mid, same_len_mid}
 use Rattle.std.proofs.lemmas.List.{length-replicate, replicate-append-replicate}
 use Rattle.paper.specs.Basics.{most_elements, concat, pad}
-use Rattle.paper.specs.Schema.{fixed_in, Element, ok, elements_of}
+use Rattle.paper.specs.Schema.{fixed_in, Element, stop, ok, element, elements_of}
 use Rattle.paper.specs.Table.{fixed_at, block_length, entries, block_of, entries_of, entries_from, fixed_numbers}
 use Rattle.table_laws.specs.Accepted.{length_entries}
 use Rattle.entries.specs.Held.{Held, held_entries, held_of}
-use Rattle.reading.specs.declared.Place.{Place}
-use Rattle.reading.specs.Ended.{Ended, ended_stop, ended_went, prefixed, prefixed_none, prefixed_more}
-use Rattle.schema.specs.Element.{ElementIn}
+use Rattle.paper.specs.Codes.{number_of}
+use Rattle.paper.specs.declared.Refusal.{Refusal}
+use Rattle.reading.specs.Ended.{Went, Ended, prefixed, prefixed_none, prefixed_more}
+use Rattle.schema.specs.Element.{BlockOf}
 
 -- two numbers, and zeros after them
 abbrev pub Head : List ℕ → Type 0
@@ -22,8 +23,8 @@ pub record Blocks (n : ℕ) (before after fixed : List ℕ) (l : List Element) :
   pub cells : after ≡ pad fixed_at (get_or before 0 0 ∷ get_or before 1 0 ∷ concat (map block_of l))
   pub entered : fixed ≡ fixed_numbers (entries_from 0 l)
 
-abbrev pub ElementsIn : ℕ → List ℕ → ℕ → Place → (before after fixed : List ℕ) → Type 0
-ElementsIn E file at r before after fixed = Ended (elements_of E E 0 (drop at file)) file r.number r.next (Blocks E before after fixed)
+abbrev pub ElementsIn : ℕ → List ℕ → ℕ → (before after fixed : List ℕ) → Result ℕ Refusal → Type 0
+ElementsIn E file at before after fixed = Ended (elements_of E E 0 (drop at file)) file (λ next. next) (λ next. Blocks E before after fixed)
 
 -- ---- zeros
 
@@ -107,12 +108,12 @@ module _ (E : ℕ) (file : List ℕ) (at : ℕ) (before : List ℕ) where
     pub lay_kept : Head before → length table ≡ length before
     lay_kept e = lay_length ∙ sym (ap length e)
 
-    pub lay_end : E ≤ i → ElementsIn E file at (record { number = 0; next = place }) before table fixed
+    pub lay_end : E ≤ i → Went (elements_of E E 0 (drop at file)) file place (Blocks E before table fixed)
     lay_end h =
         let d : i ≡ E = let f = t.few in omega arith in
         let z : E - i ≡ 0 = omega arith in
         let m : fixed_at - 2 - i * block_length ≡ fixed_at - suc (suc (length (concat (map block_of t.l)))) = omega (arith, t.size) in
-        ended_went refl (record {
+        record {
           value = t.l;
           reads = t.same ∙ rw z (ap (λ l. ok l (drop place file)) (append-nil t.l));
           within = t.within;
@@ -121,7 +122,7 @@ module _ (E : ℕ) (file : List ℕ) (at : ℕ) (before : List ℕ) where
             cells = t.cells ∙ ap (λ n. get_or before 0 0 ∷ get_or before 1 0 ∷ (concat (map block_of t.l) ++ replicate n 0)) m;
             entered = t.held.same ∙ ap fixed_numbers t.entered;
           };
-        })
+        }
 
     module _ (h : i < E) where
       starts : start ≡ suc (suc (length (concat (map block_of t.l))))
@@ -142,14 +143,13 @@ module _ (E : ℕ) (file : List ℕ) (at : ℕ) (before : List ℕ) where
       left : E - i ≡ suc (E - (i + 1))
       left = omega arith
 
-      module _ {x : Place} {y g : List ℕ} (w : ElementIn E i file place x y fixed g) where
-        pub lay_stop : (after : List ℕ) → (x.number ≡ 0 → ⊥) → ElementsIn E file at x before after g
-        lay_stop after z = ended_stop z (t.same ∙ rw (left, w.stopped z))
+      pub lay_stop : (x : Refusal) → element E (length (entries fixed)) (drop place file) ≡ stop (number_of x) → elements_of E E 0 (drop at file) ≡ stop (number_of x)
+      lay_stop x w = t.same ∙ rw (left, w)
 
-        pub lay_more : length y ≡ length (take (start + block_length - start) (drop start table)) → x.number ≡ 0
-            → Laying E file at before x.next (start + block_length) (i + 1) (put_mid start (start + block_length - start) table y) g
-        lay_more k z =
-            let v = w.went z in
+      module _ {next : ℕ} {y g : List ℕ} (v : Went (element E (length (entries fixed)) (drop place file)) file next (BlockOf i y fixed g)) where
+        pub lay_more : length y ≡ length (take (start + block_length - start) (drop start table))
+            → Laying E file at before next (start + block_length) (i + 1) (put_mid start (start + block_length - start) table y) g
+        lay_more k =
             let size : length y ≡ block_length = k ∙ ap length lay_zeros ∙ length-replicate block_length zero in
             let more : concat (map block_of (t.l ++ v.value ∷ [])) ≡ concat (map block_of t.l) ++ y = blocks_last t.l v.value ∙ ap (λ b. concat (map block_of t.l) ++ b) (sym v.holds.cells) in
             let n : fixed_at - 2 - i * block_length - block_length ≡ fixed_at - 2 - (i + 1) * block_length = omega arith in
@@ -167,7 +167,7 @@ module _ (E : ℕ) (file : List ℕ) (at : ℕ) (before : List ℕ) where
               size = ap length more ∙ omega (arith, length-append (concat (map block_of t.l)) y, t.size, size);
               same =
                   t.same
-                  ∙ rw (left, v.reads, met) (prefixed_more t.l v.value (elements_of (E - (i + 1)) E (length (entries fixed) + fixed_in v.value.attributes) (drop x.next file)));
+                  ∙ rw (left, v.reads, met) (prefixed_more t.l v.value (elements_of (E - (i + 1)) E (length (entries fixed) + fixed_in v.value.attributes) (drop next file)));
               cells =
                   ap (λ r. put_mid start (start + block_length - start) r y) t.cells
                   ∙ part_put (get_or before 0 0) (get_or before 1 0) (concat (map block_of t.l)) (fixed_at - 2 - i * block_length) start (start + block_length - start) starts (omega arith) (omega arith) y

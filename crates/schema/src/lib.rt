@@ -7,6 +7,7 @@
 
 ghost use Rattle.std.specs.Prelude.{◌≡◌, [], ◌≤◌, length, replicate};
 ghost use Rattle.paper.specs.Basics.{most_elements};
+ghost use Rattle.paper.specs.Codes.{said};
 ghost use Rattle.paper.specs.Table.{fixed_at, block_length, fixed_numbers};
 ghost use Rattle.paper.specs.Table;
 ghost use Rattle.entries.specs.Held.{Held};
@@ -16,12 +17,12 @@ ghost use Rattle.schema.specs.Whole.{SchemaIn};
 
 use attlist::{Attributes, attributes_at};
 use contentspec::put_content;
-use copying::copy_words;
+use copying::copy;
 use paper::{
-    ALLOWED_AT, BLOCK_WORDS, BLOCKS_AT, DONE, EMPTY, FIXED_AT, FIXED_WORDS, ID_AT, IDREF_AT,
-    IDREFS_AT, KIND_AT, MODEL, REQUIRED_AT, SCHEMA, TABLE, TABLE_WORDS,
+    ALLOWED_AT, BLOCK_WORDS, BLOCKS_AT, EMPTY, FIXED_AT, FIXED_WORDS, ID_AT, IDREF_AT, IDREFS_AT,
+    KIND_AT, MODEL, REQUIRED_AT, Refusal, TABLE_WORDS,
 };
-use reading::{Place, no_place, number_in};
+use reading::number_in;
 
 const MOST_ELEMENTS: u32 = paper::MOST_ELEMENTS as u32;
 
@@ -42,7 +43,8 @@ fn put_sets(block: &mut [u64], kind: u32, s: Attributes)
     block[IDREFS_AT] = s.idrefs;
 }
 
-// Element e, at a place of the file, goes into a block of zeros, and its fixed attributes behind those of the elements before.
+// Element e, at a place of the file, goes into a block of zeros, and its fixed attributes behind those of the elements before; the place
+// after it.
 fn put_element(
     file: &[u8],
     at: usize,
@@ -50,102 +52,69 @@ fn put_element(
     e: u32,
     block: &mut [u64],
     fixed: &mut [u64],
-) -> Place
+) -> Result<usize, Refusal>
     requires { (elements ≤ most_elements) × (block.old ≡ replicate block_length 0) × (Held fixed.old) }
-    ensures { ElementIn elements e file.now at result block.new fixed.old fixed.new }
+    ensures { ElementIn elements e file.now at block.new fixed.old fixed.new result }
 {
-    let k = number_in(file, at, EMPTY, MODEL);
-    if k.number != DONE {
-        return no_place(k.number);
-    }
-    let c = put_content(file, k.next, k.value, elements, block);
-    if c.number != DONE {
-        return no_place(c.number);
-    }
-    let n = number_in(file, c.next, 0, MOST_ATTRIBUTES);
-    if n.number != DONE {
-        return no_place(n.number);
-    }
-    let s = attributes_at(file, n.next, n.value, e, fixed);
-    if s.number != DONE {
-        return no_place(s.number);
-    }
-    put_sets(block, k.value, s);
-    Place {
-        number: DONE,
-        next: s.next,
-    }
+    let kind = number_in(file, at, EMPTY, MODEL)?;
+    let next = put_content(file, kind.next, kind.value, elements, block)?;
+    let n = number_in(file, next, 0, MOST_ATTRIBUTES)?;
+    let s = attributes_at(file, n.next, n.value, e, fixed)?;
+    put_sets(block, kind.value, s);
+    Ok(s.next)
 }
 
 // ---- the table
 
 // The `elements` elements at a place of the file go into a table that has its first two numbers, and zeros after them; their fixed
-// attributes among no entries.
+// attributes among no entries. The place after them.
 fn put_elements(
     file: &[u8],
     at: usize,
     elements: u32,
     table: &mut [u64],
     fixed: &mut [u64],
-) -> Place
+) -> Result<usize, Refusal>
     requires { (at ≤ length file.now) × (elements ≤ most_elements) × (Head table.old) × (fixed.old ≡ fixed_numbers []) }
-    ensures { ElementsIn elements file.now at result table.old table.new fixed.new }
+    ensures { ElementsIn elements file.now at table.old table.new fixed.new result }
 {
     let mut place = at;
     let mut start = BLOCKS_AT;
-    let mut i: u32 = 0;
-    while i < elements {
+    for i in 0..elements {
         let end = start + BLOCK_WORDS;
-        let x = put_element(file, place, elements, i, &mut table[start..end], fixed);
-        if x.number != DONE {
-            return x;
-        }
-        place = x.next;
+        place = put_element(file, place, elements, i, &mut table[start..end], fixed)?;
         start = end;
-        i += 1;
     }
-    Place {
-        number: DONE,
-        next: place,
-    }
+    Ok(place)
 }
 
-// The schema of the file goes into blocks of zeros and no entries: 0, or the refusal's number.
-fn put_schema(file: &[u8], table: &mut [u64], fixed: &mut [u64]) -> u32
+// The schema of the file goes into blocks of zeros and no entries.
+fn put_schema(file: &[u8], table: &mut [u64], fixed: &mut [u64]) -> Result<(), Refusal>
     requires { (table.old ≡ replicate fixed_at 0) × (fixed.old ≡ replicate 49 0) }
-    ensures { SchemaIn file.now result table.new fixed.new }
+    ensures { SchemaIn file.now table.new fixed.new result }
 {
-    let n = number_in(file, 0, 1, MOST_ELEMENTS);
-    if n.number != DONE {
-        return n.number;
-    }
-    let root = number_in(file, n.next, 0, n.value - 1);
-    if root.number != DONE {
-        return root.number;
-    }
+    let n = number_in(file, 0, 1, MOST_ELEMENTS)?;
+    let root = number_in(file, n.next, 0, n.value - 1)?;
     table[0] = n.value as u64;
     table[1] = root.value as u64;
-    let all = put_elements(file, root.next, n.value, table, fixed);
-    if all.number != DONE {
-        return all.number;
+    let next = put_elements(file, root.next, n.value, table, fixed)?;
+    if next < file.len() {
+        return Err(Refusal::Schema);
     }
-    if all.next < file.len() { SCHEMA } else { DONE }
+    Ok(())
 }
 
-// Translates a schema file to a table: 0, or the refusal's number.
-pub fn translate(file: &[u8], table: &mut [u64]) -> u32
-    ensures { (result, table.new) ≡ Table.translate file.now table.old }
+// Translates a schema file to a table.
+pub fn translate(file: &[u8], table: &mut [u64]) -> Result<(), Refusal>
+    ensures { (said result, table.new) ≡ Table.translate file.now table.old }
 {
     if table.len() != TABLE_WORDS {
-        return TABLE;
+        return Err(Refusal::Table);
     }
     let mut made = [0u64; FIXED_AT];
     let mut fixed = [0u64; FIXED_WORDS];
-    let number = put_schema(file, &mut made, &mut fixed);
-    if number != DONE {
-        return number;
-    }
-    copy_words(table, 0, &made, 0, FIXED_AT);
-    copy_words(table, FIXED_AT, &fixed, 0, FIXED_WORDS);
-    number
+    put_schema(file, &mut made, &mut fixed)?;
+    copy(table, 0, &made, 0, FIXED_AT);
+    copy(table, FIXED_AT, &fixed, 0, FIXED_WORDS);
+    Ok(())
 }

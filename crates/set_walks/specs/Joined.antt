@@ -5,7 +5,7 @@ use Rattle.std.specs.Int.Bits.{bit_or, or_zero_r}
 use Rattle.std.specs.Int.Count.{count_trailing_zeros}
 use Rattle.paper.specs.Sets.{bit, when}
 use Rattle.paper_laws.specs.Words.{bit_low, bit_half}
-use Rattle.sets.specs.Lowest.{cleared, trailing_even, trailing_odd, cleared_even, cleared_odd, lowest_ind, turn}
+use Rattle.sets.specs.Lowest.{cleared, Taken, trailing_even, trailing_odd, cleared_even, cleared_odd, lowest_ind, turn}
 
 -- each word of the list whose place is a member of `from`, with the members of `to` in it
 abbrev pub joined : ℕ → ℕ → List ℕ → List ℕ
@@ -60,10 +60,11 @@ module _ (goal : List ℕ) (to : ℕ) (follow : List ℕ) (rest : ℕ) (j : Join
   pub all_joined : rest ≡ 0 → follow ≡ goal
   all_joined z = sym (joined_none to follow) ∙ ap (λ w. joined w to follow) (sym z) ∙ j.same
 
-  pub one_joined : {words : List ℕ} {next : ℕ} → (rest ≡ 0 → ⊥) → words ≡ joined_one (count_trailing_zeros 64 rest) to follow → next ≡ cleared rest
-      → Joining goal to words next
-  one_joined more d e = rw (d, e) (record {
-    fits = (turn 64 rest j.fits more).fits;
-    long = length-set follow (count_trailing_zeros 64 rest) (bit_or (get_or follow (count_trailing_zeros 64 rest) 0) to) ∙ j.long;
-    same = joined_cleared 64 rest j.fits (omega arith) to follow j.long ∙ j.same;
-  })
+  pub one_joined : {k next : ℕ} {words : List ℕ} → Taken rest k next → words ≡ joined_one k to follow → Joining goal to words next
+  one_joined t d =
+      let more : rest ≡ 0 → ⊥ = t.some in
+      rw (d, t.lowest, t.others) (record {
+        fits = (turn 64 rest j.fits more).fits;
+        long = length-set follow (count_trailing_zeros 64 rest) (bit_or (get_or follow (count_trailing_zeros 64 rest) 0) to) ∙ j.long;
+        same = joined_cleared 64 rest j.fits (omega arith) to follow j.long ∙ j.same;
+      })

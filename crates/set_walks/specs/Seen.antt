@@ -3,13 +3,12 @@ use Rattle.std.specs.Prelude.{◌≡◌, refl, Bool, true, false, not, ◌&&◌,
 use Rattle.std.proofs.Common.{sym, ap, ap₂, ◌∙◌, arith, ltb-true}
 use Rattle.std.proofs.Math.Bool.{and-eq-true_iff}
 use Rattle.std.specs.Int.Bits.{bit_or}
-use Rattle.std.specs.Int.Count.{count_trailing_zeros}
 use Rattle.paper.specs.Basics.{all, elem, distinct}
 use Rattle.paper.specs.Sets.{bit}
 use Rattle.paper.specs.Table.{chosen}
 use Rattle.paper_laws.specs.Words.{bit_of_or, bit_zero, bit_one}
 use Rattle.basic_laws.specs.Numbers.{eqb_sym}
-use Rattle.sets.specs.Lowest.{cleared, turn}
+use Rattle.sets.specs.Lowest.{Taken, turn}
 use Rattle.sets.specs.Chosen.{small, chosen_none, chosen_cleared}
 
 -- no number of the list is a member of `seen`, and none stands twice
@@ -64,17 +63,17 @@ module _ (names : List ℕ) (answer : Bool) (rest seen : ℕ) (s : Seeing names 
   pub all_seen : rest ≡ 0 → true ≡ answer
   all_seen z = rw (z, chosen_none names) at s.same
 
-  module _ (long : length names ≡ 64) (more : rest ≡ 0 → ⊥) where
+  module _ (long : length names ≡ 64) {k others : ℕ} (t : Taken rest k others) where
     abbrev name : ℕ
-    name = get_or names (count_trailing_zeros 64 rest) 0
+    name = get_or names k 0
 
-    next : chosen rest names ≡ name ∷ chosen (cleared rest) names
-    next = chosen_cleared 64 rest s.fits (omega arith) names long
+    next : chosen rest names ≡ name ∷ chosen others names
+    next = let more : rest ≡ 0 → ⊥ = t.some in rw (t.lowest, t.others) (chosen_cleared 64 rest s.fits (omega arith) names long)
 
-    lows : (ltb name 64 ≡ true) × (small (chosen (cleared rest) names) ≡ true)
-    lows = (and-eq-true_iff (ltb name 64) (small (chosen (cleared rest) names))).0 (sym (ap small next) ∙ s.low)
+    lows : (ltb name 64 ≡ true) × (small (chosen others names) ≡ true)
+    lows = (and-eq-true_iff (ltb name 64) (small (chosen others names))).0 (sym (ap small next) ∙ s.low)
 
-    sames : (not (bit seen name) && unseen (bit_or seen (2 ^ name)) (chosen (cleared rest) names)) ≡ answer
+    sames : (not (bit seen name) && unseen (bit_or seen (2 ^ name)) (chosen others names)) ≡ answer
     sames = sym (ap (unseen seen) next) ∙ s.same
 
     pub name_low : name < 64
@@ -83,6 +82,5 @@ module _ (names : List ℕ) (answer : Bool) (rest seen : ℕ) (s : Seeing names 
     pub seen_twice : {r : Bool} → r ≡ bit seen name → r ≡ true → false ≡ answer
     seen_twice p q = rw (sym p ∙ q) at sames
 
-    pub seen_once : {r : Bool} {also next : ℕ} → r ≡ bit seen name → r ≡ false → also ≡ bit_or seen (2 ^ name) → next ≡ cleared rest
-        → Seeing names answer next also
-    seen_once p q e f = rw (e, f) (record { fits = (turn 64 rest s.fits more).fits; low = lows.1; same = rw (sym p ∙ q) at sames })
+    pub seen_once : {r : Bool} {also : ℕ} → r ≡ bit seen name → r ≡ false → also ≡ bit_or seen (2 ^ name) → Seeing names answer others also
+    seen_once p q e = rw e (record { fits = rw t.others (turn 64 rest s.fits t.some).fits; low = lows.1; same = rw (sym p ∙ q) at sames })

@@ -1,7 +1,6 @@
 // Walks over a set, with a word or a name for each number.
 //
-// A walk takes the lowest member, found by its trailing zeros, until none is left. The laws stand in specs/, over the width.
-// Assumes nothing.
+// The laws stand in specs/, over the width. Assumes nothing.
 #![tactic(auto)]
 
 ghost use Rattle.std.specs.Prelude.{◌≡◌, true, length};
@@ -11,18 +10,15 @@ ghost use Rattle.sets.specs.Chosen.{small};
 ghost use Rattle.set_walks.specs.Joined.{joined};
 ghost use Rattle.set_walks.specs.Named.{next_named};
 
-use sets::{has, with, without_lowest};
+use sets::{Members, has, with};
 
 // The members of `to` go into each word of `follow` at a member of `from`.
 pub fn connect(follow: &mut [u64], from: u64, to: u64)
     requires { length follow.old ≡ 64 }
     ensures { follow.new ≡ joined from to follow.old }
 {
-    let mut rest = from;
-    while rest != 0 {
-        let k = u64::trailing_zeros(rest) as usize;
-        follow[k] = follow[k] | to;
-        rest = without_lowest(rest);
+    for k in Members(from) {
+        follow[k as usize] |= to;
     }
 }
 
@@ -31,39 +27,26 @@ pub fn one_each(set: u64, names: &[u64]) -> bool
     requires { (length names.now ≡ 64) × (small (chosen set names.now) ≡ true) }
     ensures { result ≡ distinct (chosen set names.now) }
 {
-    let mut rest = set;
     let mut seen: u64 = 0;
-    while rest != 0 {
-        let k = u64::trailing_zeros(rest) as usize;
-        let name = names[k] as u32;
+    for k in Members(set) {
+        let name = names[k as usize] as u32;
         if has(seen, name) {
             return false;
         }
         seen = with(seen, name);
-        rest = without_lowest(rest);
     }
     true
 }
 
-// Where a name stands among the members of a set.
-#[derive(Clone, Copy)]
-pub enum Next {
-    At(u32),
-    Nowhere,
-}
-
 // The lowest member that has the name.
-pub fn next_named(set: u64, names: &[u64], name: u64) -> Next
+pub fn next_named(set: u64, names: &[u64], name: u64) -> Option<u32>
     requires { length names.now ≡ 64 }
     ensures { result ≡ next_named set names.now name }
 {
-    let mut rest = set;
-    while rest != 0 {
-        let k = u64::trailing_zeros(rest);
+    for k in Members(set) {
         if names[k as usize] == name {
-            return Next::At(k);
+            return Some(k);
         }
-        rest = without_lowest(rest);
     }
-    Next::Nowhere
+    None
 }

@@ -1,6 +1,6 @@
 -- The lowest member of a word: where it stands, the word without it, and how many members there are. A walk takes the lowest member
 -- out until none is left. Assumes nothing.
-use Rattle.std.specs.Prelude.{◌≡◌, refl, Bool, true, false, not, ◌&&◌, ◌⊎◌, ◌↔◌, ℕ, zero, suc, ◌+◌, ◌-◌, ◌/◌, ◌%◌, ◌^◌, ◌≤◌, ◌<◌, eqb}
+use Rattle.std.specs.Prelude.{◌≡◌, refl, Bool, true, false, not, ◌&&◌, ◌⊎◌, ◌↔◌, Option, Some, None, ℕ, zero, suc, ◌+◌, ◌-◌, ◌/◌, ◌%◌, ◌^◌, ◌≤◌, ◌<◌, eqb}
 use Rattle.std.proofs.Common.{sym, ap, ap₂, ◌∙◌, inl, inr, arith, eqb-true, eq-eqb, pow_pos}
 use Rattle.std.proofs.Math.Bool.{and-true, and-false, and-eq-true_iff}
 use Rattle.std.proofs.Math.Dec.{eqb-suc-zero, eqb-suc-suc}
@@ -15,6 +15,17 @@ use Rattle.basic_laws.specs.Bools.{clash, fails}
 -- the word without its lowest member, as code takes it out
 abbrev pub cleared : ℕ → ℕ
 cleared w = bit_and w (w - 1)
+
+-- k is the lowest member of w, and v holds the others
+pub record Taken (w k v : ℕ) : Type 0 where
+  pub some : w ≡ 0 → ⊥
+  pub lowest : k ≡ count_trailing_zeros 64 w
+  pub others : v ≡ cleared w
+
+-- one turn of a walk: the lowest member is taken, or there is none
+abbrev pub Lowest : ℕ → Option ℕ → ℕ → Type 0
+Lowest w None v = (w ≡ 0) × (v ≡ 0)
+Lowest w (Some k) v = Taken w k v
 
 -- ---- one digit at a time
 
@@ -101,6 +112,9 @@ turn n w h z =
     cases : (j : ℕ) → bit w j ≡ true → (b : Bool) → eqb j (count_trailing_zeros n w) ≡ b → 0 < w → (j ≡ count_trailing_zeros n w) ⊎ (bit (cleared w) j ≡ true)
     cases j m true e p = inl (eqb-true j (count_trailing_zeros n w) e)
     cases j m false e p = inr (bit_cleared n w h p j ∙ ap₂ (λ a b. a && not b) m e)
+
+pub taken_below : (w k v : ℕ) → w < 2 ^ 64 → Taken w k v → k < 64
+taken_below w k v h t = rw t.lowest (turn 64 w h t.some).small
 
 -- ---- `count_ones`
 

@@ -8,7 +8,8 @@ ghost use Rattle.std.specs.Int.Bits.{bit_or};
 ghost use Rattle.paper.specs.Sets.{bit};
 ghost use Rattle.paper.specs.Sets;
 ghost use Rattle.paper.specs.Table.{within, apart, single};
-ghost use Rattle.sets.specs.Lowest.{cleared};
+ghost use Rattle.std.specs.Iterator.{at_most};
+ghost use Rattle.sets.specs.Lowest.{cleared, Lowest};
 
 // k is a member of the set.
 pub fn has(set: u64, k: u32) -> bool
@@ -81,4 +82,26 @@ pub fn without_lowest(set: u64) -> u64
     ensures { result ≡ cleared set }
 {
     set & (set - 1)
+}
+
+// A walk over the members of a set, the lowest first.
+#[derive(Drop)]
+pub struct Members(pub u64);
+
+impl Iterator for Members {
+    type Item = u32;
+
+    ghost next_gives = { λ s r t. Lowest s.0 r t.0 };
+
+    ghost remaining = { λ s. at_most s.0 };
+
+    // The lowest member of those that are left.
+    fn next(&mut self) -> Option<u32> {
+        if self.0 == 0 {
+            return None;
+        }
+        let k = u64::trailing_zeros(self.0);
+        self.0 = without_lowest(self.0);
+        Some(k)
+    }
 }

@@ -3,7 +3,6 @@ use Rattle.std.specs.Prelude.{◌≡◌, Bool, false, ◌&&◌, List, ℕ, ◌�
 use Rattle.std.proofs.Math.Bool.{and-false}
 use Rattle.std.proofs.Common.{le-leb}
 use Rattle.std.proofs.lemmas.Bool.{lt-leb}
-use Rattle.std.proofs.Math.Seq.{take-length}
 use Rattle.paper.specs.Basics.{most_tokens}
 use Rattle.paper.specs.Tokens.{toks}
 use Rattle.paper.specs.Shape.{is_element, shallow, shape_of}
@@ -26,7 +25,3 @@ pub shape_element : (buf : List ℕ) (used : ℕ) {y : Bool} → 2 ≤ used → 
     → y ≡ is_element (toks (take used buf)) && shallow (toks (take used buf)) → y ≡ shape_of buf used
 unfolding shape_of
 shape_element buf used a b h e = rw (le-leb 2 used a, le-leb used most_tokens b, le-leb used (length buf) h) e
-
-pub piece_element : (piece : List ℕ) {y : Bool} → y ≡ is_element (toks (take (length piece) piece)) && shallow (toks (take (length piece) piece))
-    → y ≡ is_element (toks piece) && shallow (toks piece)
-piece_element piece e = rw take-length at e

@@ -1,5 +1,5 @@
 -- The scan's turns: the numbers it keeps tell the phase and the level, and what is left of the tokens decides. Assumes nothing.
-use Rattle.std.specs.Prelude.{◌≡◌, refl, Bool, false, not, ◌&&◌, List, ◌∷◌, leb, ltb, eqb, length, take, drop}
+use Rattle.std.specs.Prelude.{◌≡◌, refl, Bool, false, not, ◌&&◌, List, [], ◌∷◌, leb, ltb, eqb, length, drop}
 use Rattle.std.proofs.Math.Path.{sym}
 use Rattle.std.proofs.Common.{ap, ◌∙◌, add-one, arith}
 use Rattle.std.proofs.Math.Bool.{true, and-eq-true_iff}
@@ -10,7 +10,7 @@ use Rattle.paper.specs.declared.Tok.{Tok}
 use Rattle.paper.specs.Basics.{most_deep, most_number}
 use Rattle.paper.specs.Tokens.{tok_of, toks, starts}
 use Rattle.paper.specs.Shape.{Phase, Head, Fail, phase_of, is_element}
-use Rattle.shape_laws.specs.Ends.{rest_next, rest_none}
+use Rattle.shape_laws.specs.Ends.{rest_at, rest_past}
 use Rattle.tokens.specs.Sorts.{token}
 use Rattle.tokens.specs.Theorems.{start_iff}
 use Rattle.scan.specs.declared.Scan.{Scan}
@@ -61,33 +61,34 @@ module _ (p : Phase) (sort n : ℕ) (h : sort < 8) where
 -- ---- the loop
 
 -- before place i: a phase that the scan's numbers tell, and in it what is left decides
-pub record Scanning (buf : List ℕ) (used i : ℕ) (s : Scan) : Type 0 where
-  pub place : i ≤ used
+pub record Scanning (doc : List ℕ) (i : ℕ) (s : Scan) : Type 0 where
+  pub place : i ≤ length doc
   pub phase : Phase
   pub next : s.next ≡ next_of phase
   pub least : s.least ≡ least_of phase
   pub small : s.least ≤ most_number + 1
-  pub left : element (toks (take used buf)) ≡ rest phase s.level (drop i (toks (take used buf)))
+  pub left : element (toks doc) ≡ rest phase s.level (drop i (toks doc))
 
-pub scan_none : (buf : List ℕ) (used : ℕ) → used ≡ 0 → false ≡ element (toks (take used buf))
+pub scan_none : (doc : List ℕ) → length doc ≡ 0 → false ≡ element (toks doc)
 unfolding is_element
-scan_none buf used e = rw e
+scan_none [] e = refl
+scan_none (x ∷ doc) e = absurd (omega arith)
 
-module _ (buf : List ℕ) (used : ℕ) (a : used ≡ 0 → ⊥) (b : used ≤ length buf) {y : Bool} (ey : y ≡ starts (tok_of (get_or buf 0 0))) where
-  whole : toks (take used buf) ≡ tok_of (get_or buf 0 0) ∷ drop 1 (toks (take used buf))
-  whole = rest_next buf used 0 (omega arith) b
+module _ (doc : List ℕ) (a : length doc ≡ 0 → ⊥) {y : Bool} (ey : y ≡ starts (tok_of (get_or doc 0 0))) where
+  whole : toks doc ≡ tok_of (get_or doc 0 0) ∷ drop 1 (toks doc)
+  whole = rest_at doc 0 (omega arith)
 
-  pub scan_no_start : not y ≡ true → false ≡ element (toks (take used buf))
-  scan_no_start n = sym (no_element (toks (take used buf)) (rw whole (sym ey ∙ not-true y n)))
+  pub scan_no_start : not y ≡ true → false ≡ element (toks doc)
+  scan_no_start n = sym (no_element (toks doc) (rw whole (sym ey ∙ not-true y n)))
 
-  pub scan_begin : not y ≡ false → Scanning buf used 1 (record { next = 30; least = 0; level = 1 })
+  pub scan_begin : not y ≡ false → Scanning doc 1 (record { next = 30; least = 0; level = 1 })
   scan_begin n = record {
     place = omega arith;
     phase = Head;
     next = refl;
     least = refl;
     small = omega arith;
-    left = ap element (whole ∙ ap (λ t. t ∷ drop 1 (toks (take used buf))) ((start_iff (get_or buf 0 0)).0 (sym ey ∙ not-false y n))) ∙ element_rest _ _;
+    left = ap element (whole ∙ ap (λ t. t ∷ drop 1 (toks doc)) ((start_iff (get_or doc 0 0)).0 (sym ey ∙ not-false y n))) ∙ element_rest _ _;
   }
 
 module _ (s : Scan) (sort n : ℕ) {y : Bool} (ey : y ≡ stands s sort n) (e : not y ≡ false) where
@@ -104,27 +105,26 @@ module _ (s : Scan) (sort n : ℕ) {y : Bool} (ey : y ≡ stands s sort n) (e : 
   pub stands_shallow : s.level ≤ most_deep
   stands_shallow = leb-true s.level most_deep ((and-eq-true_iff (leb s.level most_deep) may_here).0 level_tests.1).0
 
-module _ (buf : List ℕ) (used i : ℕ) (s : Scan) (c : Scanning buf used i s) (l : used ≤ length buf) where
-  pub scan_end : used ≤ i → eqb s.level 0 ≡ element (toks (take used buf))
+module _ (doc : List ℕ) (i : ℕ) (s : Scan) (c : Scanning doc i s) where
+  pub scan_end : length doc ≤ i → eqb s.level 0 ≡ element (toks doc)
   scan_end h =
-      let e : i ≡ used = omega arith in
-      sym (c.left ∙ rw (e, rest_none) (rest_end c.phase s.level))
+      sym (c.left ∙ rw (rest_past doc i h) (rest_end c.phase s.level))
 
-  module _ (h : i < used) {y : Bool} (ey : y ≡ stands s (get_or buf i 0 % 8) (get_or buf i 0 / 8)) where
-    sort : get_or buf i 0 % 8 < 8
+  module _ (h : i < length doc) {y : Bool} (ey : y ≡ stands s (get_or doc i 0 % 8) (get_or doc i 0 / 8)) where
+    sort : get_or doc i 0 % 8 < 8
     sort = omega arith
 
-    pub scan_stop : not y ≡ true → false ≡ element (toks (take used buf))
+    pub scan_stop : not y ≡ true → false ≡ element (toks doc)
     unfolding stands
     scan_stop e =
-        sym (c.left ∙ rw (rest_next buf used i h l)
-        (rest_stopped c.phase (get_or buf i 0 % 8) (get_or buf i 0 / 8) sort s.level (drop (suc i) (toks (take used buf)))
+        sym (c.left ∙ rw (rest_at doc i h)
+        (rest_stopped c.phase (get_or doc i 0 % 8) (get_or doc i 0 / 8) sort s.level (drop (suc i) (toks doc))
         (rw (c.next, c.least) at (sym ey ∙ not-true y e))))
 
-    pub scan_turn : not y ≡ false → {s' : Scan} → s' ≡ passed s (get_or buf i 0 % 8) (get_or buf i 0 / 8) → Scanning buf used (i + 1) s'
+    pub scan_turn : not y ≡ false → {s' : Scan} → s' ≡ passed s (get_or doc i 0 % 8) (get_or doc i 0 / 8) → Scanning doc (i + 1) s'
     unfolding stands passed
     scan_turn e es =
-        let t : ℕ = get_or buf i 0 in
+        let t : ℕ = get_or doc i 0 in
         let p : Phase = c.phase in
         let low : 1 ≤ s.level = stands_open s (t % 8) (t / 8) ey e in
         let high : s.level ≤ most_deep = stands_shallow s (t % 8) (t / 8) ey e in
@@ -139,6 +139,6 @@ module _ (buf : List ℕ) (used i : ℕ) (s : Scan) (c : Scanning buf used i s) 
           next = told.0;
           least = rw c.least told.1;
           small = stays_small s.least (t / 8) (t % 8) sort c.small (ltb-true (t / 8) (numbers (t % 8)) (has_number p (t % 8) (t / 8) sort ok));
-          left = c.left ∙ rw (rest_next buf used i h l, add-one)
-              (rest_passed p (t % 8) (t / 8) sort ok s.level (drop (suc i) (toks (take used buf))) low high);
+          left = c.left ∙ rw (rest_at doc i h, add-one)
+              (rest_passed p (t % 8) (t / 8) sort ok s.level (drop (suc i) (toks doc)) low high);
         })

@@ -4,19 +4,18 @@
 // Assumes nothing.
 #![tactic(auto)]
 
-ghost use Rattle.std.specs.Prelude.{◌≡◌, ◌&&◌, ◌≤◌, length, take};
+ghost use Rattle.std.specs.Prelude.{◌≡◌, ◌&&◌};
 ghost use Rattle.paper.specs.Tokens.{toks};
 ghost use Rattle.paper.specs.Shape.{is_element, shallow, shape_of};
 
 use scan::{RULES, Scan, passed, stands};
 use tokens::is_start;
 
-// Whether the first `used` tokens are one element, at most 64 deep: one pass, left at the first token that may not stand.
-fn one_element(doc: &[u32], used: usize) -> bool
-    requires { used ≤ length doc.now }
-    ensures { result ≡ (is_element (toks (take used doc.now)) && shallow (toks (take used doc.now))) }
+// Whether the tokens are one element, at most 64 deep: one pass, left at the first token that may not stand.
+fn one_element(doc: &[u32]) -> bool
+    ensures { result ≡ (is_element (toks doc.now) && shallow (toks doc.now)) }
 {
-    if used == 0 {
+    if doc.len() == 0 {
         return false;
     }
     if !is_start(doc[0]) {
@@ -28,14 +27,12 @@ fn one_element(doc: &[u32], used: usize) -> bool
         least: 0,
         level: 1,
     };
-    let mut i: usize = 1;
-    while i < used {
+    for i in 1..doc.len() {
         let t = doc[i];
         if !stands(&table, s, t) {
             return false;
         }
         s = passed(&table, s, t);
-        i += 1;
     }
     s.level == 0
 }
@@ -53,12 +50,12 @@ pub fn shape(doc: &[u32], used: usize) -> bool
     if doc.len() < used {
         return false;
     }
-    one_element(doc, used)
+    one_element(&doc[..used])
 }
 
 // Whether the piece, of any length, is one element, at most 64 deep.
 pub fn element_shape(piece: &[u32]) -> bool
     ensures { result ≡ (is_element (toks piece.now) && shallow (toks piece.now)) }
 {
-    one_element(piece, piece.len())
+    one_element(piece)
 }

@@ -18,27 +18,39 @@ rest_none buf zero = refl
 rest_none [] (suc used) = refl
 rest_none (x ∷ buf) (suc used) = rest_none buf used
 
-module _ (buf : List ℕ) (used i k : ℕ) {t : Tok} (h : i < used) (l : used ≤ length buf) (et : t ≡ tok_of (get_or buf i 0)) where
-  pub close_stop : closes_of k t ≡ true → i + close k (drop i (toks (take used buf))) ≡ i
-  close_stop e = rw (rest_next buf used i h l, ← et, e, add-zero)
+-- the same of all tokens
+pub rest_at : (l : List ℕ) (i : ℕ) → i < length l → drop i (toks l) ≡ tok_of (get_or l i 0) ∷ drop (suc i) (toks l)
+rest_at [] i h = absurd (not-suc-le-zero h)
+rest_at (x ∷ l) zero h = refl
+rest_at (x ∷ l) (suc i) h = rest_at l i (le_of_suc-le-suc h)
 
-  pub close_go : closes_of k t ≡ false → i + close k (drop i (toks (take used buf))) ≡ i + 1 + close (level_of k t) (drop (i + 1) (toks (take used buf)))
-  close_go e = rw (rest_next buf used i h l, ← et, e, add-one) (omega arith)
+pub rest_past : (l : List ℕ) (i : ℕ) → length l ≤ i → drop i (toks l) ≡ []
+rest_past [] zero h = refl
+rest_past [] (suc i) h = refl
+rest_past (x ∷ l) zero h = absurd (not-suc-le-zero h)
+rest_past (x ∷ l) (suc i) h = rest_past l i (le_of_suc-le-suc h)
 
-pub close_out : (buf : List ℕ) (used i k : ℕ) → i ≡ used → i + close k (drop i (toks (take used buf))) ≡ i
-close_out buf used i k e = rw (e, rest_none, add-zero)
+module _ (doc : List ℕ) (i k : ℕ) {t : Tok} (h : i < length doc) (et : t ≡ tok_of (get_or doc i 0)) where
+  pub close_stop : closes_of k t ≡ true → i + close k (drop i (toks doc)) ≡ i
+  close_stop e = rw (rest_at doc i h, ← et, e, add-zero)
+
+  pub close_go : closes_of k t ≡ false → i + close k (drop i (toks doc)) ≡ i + 1 + close (level_of k t) (drop (i + 1) (toks doc))
+  close_go e = rw (rest_at doc i h, ← et, e, add-one) (omega arith)
+
+pub close_out : (doc : List ℕ) (i k : ℕ) → length doc ≤ i → i + close k (drop i (toks doc)) ≡ i
+close_out doc i k e = rw (rest_past doc i e, add-zero)
 
 pub deep_ge : (k : ℕ) (d : List Tok) → k ≤ deep k d
 deep_ge k [] = omega arith
 deep_ge k (t ∷ d) = omega arith
 
-pub deep_turn : (buf : List ℕ) (used i k m : ℕ) {t : Tok} → k ≤ m → i < used → used ≤ length buf → t ≡ tok_of (get_or buf i 0)
-    → max m (deep k (drop i (toks (take used buf)))) ≡ max (max m (level_of k t)) (deep (level_of k t) (drop (i + 1) (toks (take used buf))))
-deep_turn buf used i k m {t} low h l et =
-    rw (rest_next buf used i h l, ← et, add-one) (omega (arith, deep_ge (level_of k t) (drop (suc i) (toks (take used buf)))))
+pub deep_turn : (doc : List ℕ) (i k m : ℕ) {t : Tok} → k ≤ m → i < length doc → t ≡ tok_of (get_or doc i 0)
+    → max m (deep k (drop i (toks doc))) ≡ max (max m (level_of k t)) (deep (level_of k t) (drop (i + 1) (toks doc)))
+deep_turn doc i k m {t} low h et =
+    rw (rest_at doc i h, ← et, add-one) (omega (arith, deep_ge (level_of k t) (drop (suc i) (toks doc))))
 
-pub deep_out : (buf : List ℕ) (used i k m : ℕ) → i ≡ used → max m (deep k (drop i (toks (take used buf)))) ≡ max m k
-deep_out buf used i k m e = rw (e, rest_none)
+pub deep_out : (doc : List ℕ) (i k m : ℕ) → length doc ≤ i → max m (deep k (drop i (toks doc))) ≡ max m k
+deep_out doc i k m e = rw (rest_past doc i e)
 
 pub level_le : (k : ℕ) (t : Tok) → level_of k t ≤ k + 1
 level_le k (Start n) = omega arith

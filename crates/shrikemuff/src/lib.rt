@@ -82,7 +82,10 @@ pub fn shrike_write(tokens: &[u32], file: &mut [u8]) -> Count
 pub fn shrike_translate(file: &[u8], table: &mut [u64]) -> u32
     ensures { Translates file.now table.old (result, table.new) }
 {
-    schema::translate(file, table)
+    match schema::translate(file, table) {
+        Ok(()) => paper::DONE,
+        Err(refusal) => refusal.number(),
+    }
 }
 
 // Checks the first `used` tokens of the buffer. A check that says valid writes the counts.
@@ -94,10 +97,15 @@ pub fn shrike_check(
 ) -> Verdict
     ensures { Checks table.now doc.now used counts.old ((result.number, result.place), counts.new) }
 {
-    let said = checks::check(table, doc, used as usize, counts);
-    Verdict {
-        number: said.number,
-        place: said.place,
+    match checks::check(table, doc, used as usize, counts) {
+        Ok(()) => Verdict {
+            number: paper::DONE,
+            place: 0,
+        },
+        Err(fault) => Verdict {
+            number: fault.refusal.number(),
+            place: fault.place,
+        },
     }
 }
 

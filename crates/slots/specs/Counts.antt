@@ -1,12 +1,12 @@
--- The loops that count the values from a place on, and the tokens before an attribute; the tokens of one attribute. Assumes nothing.
-use Rattle.std.specs.Prelude.{◌≡◌, refl, Bool, true, false, cond, not, ◌&&◌, ◌||◌, List, [], ◌∷◌, ℕ, suc, ◌+◌, ◌-◌, ◌/◌, ◌%◌, ◌≤◌, ◌<◌, ltb, eqb, length, take, drop, get_or}
-use Rattle.std.proofs.Common.{sym, ap, ◌∙◌, arith, add-one, length-drop, drop_of_length-le}
-use Rattle.std.proofs.lemmas.Bool.{not-true, not-false}
+-- The values from a place on, the tokens before an attribute, and the tokens of one attribute, as counts. Assumes nothing.
+use Rattle.std.specs.Prelude.{◌≡◌, refl, Bool, true, false, cond, ◌&&◌, ◌||◌, List, [], ◌∷◌, ℕ, suc, ◌+◌, ◌/◌, ◌%◌, ◌≤◌, ltb, eqb, length}
+use Rattle.std.specs.List.{prefix_len, take_while}
+use Rattle.std.proofs.Common.{sym, ap, ◌∙◌, arith}
+use Rattle.std.proofs.lemmas.List.{length-map}
+use Rattle.std.proofs.lemmas.List.Folds.{length-prefix_len}
 use Rattle.paper.specs.declared.Tok.{Tok}
 use Rattle.paper.specs.declared.Tok.TheVariants.{Start, End, Text, Attr, Value, Bad}
 use Rattle.paper.specs.Tokens.{tok_of, toks, values, slot, held}
-use Rattle.shape_laws.specs.Ends.{rest_next, rest_none}
-use Rattle.shape_laws.specs.Bridge.{length_toks}
 use Rattle.tokens.specs.Sorts.{attr_tok, value_tok}
 use Rattle.tokens.specs.Theorems.{token_cases}
 
@@ -69,87 +69,35 @@ held_test a (Attr n) r = refl
 held_test a (Value n) r = refl
 held_test a Bad r = refl
 
--- of a count from place `at` on, the tokens up to place i are counted
-pub record Counting (count : List Tok → ℕ) (buf : List ℕ) (used at i : ℕ) : Type 0 where
-  pub low : at ≤ i
-  pub here : i ≤ used
-  pub left : count (drop at (toks (take used buf))) ≡ i - at + count (drop i (toks (take used buf)))
-
+-- each is how many tokens pass a test, up to the first that does not
 module _ (count : List Tok → ℕ) (test : Tok → Bool) (none : count [] ≡ 0) (each : (t : Tok) (r : List Tok) → count (t ∷ r) ≡ cond (test t) (suc (count r)) 0) where
-  module _ (buf : List ℕ) (used at : ℕ) (l : used ≤ length buf) where
-    counting_begin : at ≤ used → Counting count buf used at at
-    counting_begin h = record { low = omega arith; here = h; left = omega arith }
+  counted : (l : List ℕ) → length (take_while (λ t. test (tok_of t)) l) ≡ count (toks l)
+  counted l = length-prefix_len (λ t. test (tok_of t)) l ∙ go l
+    where
+      by : (b : Bool) (n : ℕ) → cond b (1 + n) 0 ≡ cond b (suc n) 0
+      by true n = omega arith
+      by false n = refl
 
-    module _ (i : ℕ) (c : Counting count buf used at i) where
-      counting_out : used ≤ i → i - at ≡ count (drop at (toks (take used buf)))
-      counting_out h =
-          let z : i ≡ used = omega arith in
-          let e : count (drop i (toks (take used buf))) ≡ 0 = ap (λ k. count (drop k (toks (take used buf)))) z ∙ ap count (rest_none buf used) ∙ none in
-          omega arith
+      go : (l : List ℕ) → prefix_len (λ t. test (tok_of t)) l ≡ count (toks l)
+      go [] = sym none
+      go (x ∷ l) = rw (each, go l) (by (test (tok_of x)) (count (toks l)))
 
-      module _ {y : Bool} (h : i < used) (ey : y ≡ test (tok_of (get_or buf i 0))) where
-        next : count (drop i (toks (take used buf))) ≡ cond y (suc (count (drop (suc i) (toks (take used buf))))) 0
-        next = rw (rest_next buf used i h l, each, ← ey)
+pub values_counted : (l : List ℕ) → length (take_while (λ t. value_tok (tok_of t)) l) ≡ values (toks l)
+values_counted = counted values value_tok refl values_test
 
-        counting_stop : not y ≡ true → i - at ≡ count (drop at (toks (take used buf)))
-        counting_stop n =
-            let e : count (drop i (toks (take used buf))) ≡ 0 = next ∙ rw (not-true y n) in
-            omega arith
+pub slot_counted : (a : ℕ) (l : List ℕ) → length (take_while (λ t. passes a (tok_of t)) l) ≡ slot a (toks l)
+slot_counted a = counted (slot a) (passes a) refl (slot_test a)
 
-        counting_turn : not y ≡ false → Counting count buf used at (i + 1)
-        counting_turn n =
-            let e : count (drop i (toks (take used buf))) ≡ suc (count (drop (suc i) (toks (take used buf)))) = next ∙ rw (not-false y n) in
-            record { low = omega arith; here = omega arith; left = rw add-one (omega arith) }
+-- the attribute that begins the tokens
+module _ (a t : ℕ) (l : List ℕ) {y : Bool} {m : ℕ} (ey : y ≡ attr_tok (tok_of t)) (em : m ≡ t / 8) where
+  here : held a (toks (t ∷ l)) ≡ cond (y && eqb m a) (suc (values (toks l))) 0
+  here = held_test a (tok_of t) (toks l) ∙ ap (λ b. cond b (suc (values (toks l))) 0) (sym (names_told a t ey em))
 
--- ---- how many values, and how many tokens before an attribute
+  pub held_other : y && eqb m a ≡ false → 0 ≡ held a (toks (t ∷ l))
+  held_other n = sym (here ∙ rw n)
 
-module _ (buf : List ℕ) (used at : ℕ) (l : used ≤ length buf) where
-  pub values_begin : at ≤ used → Counting values buf used at at
-  values_begin = counting_begin values value_tok refl values_test buf used at l
-
-  module _ (i : ℕ) (c : Counting values buf used at i) where
-    pub values_out : used ≤ i → i - at ≡ values (drop at (toks (take used buf)))
-    values_out = counting_out values value_tok refl values_test buf used at l i c
-
-    module _ {y : Bool} (h : i < used) (ey : y ≡ value_tok (tok_of (get_or buf i 0))) where
-      pub values_stop : not y ≡ true → i - at ≡ values (drop at (toks (take used buf)))
-      values_stop = counting_stop values value_tok refl values_test buf used at l i c h ey
-
-      pub values_turn : not y ≡ false → Counting values buf used at (i + 1)
-      values_turn = counting_turn values value_tok refl values_test buf used at l i c h ey
-
-module _ (a : ℕ) (buf : List ℕ) (used at : ℕ) (l : used ≤ length buf) where
-  pub slot_begin : at ≤ used → Counting (slot a) buf used at at
-  slot_begin = counting_begin (slot a) (passes a) refl (slot_test a) buf used at l
-
-  module _ (i : ℕ) (c : Counting (slot a) buf used at i) where
-    pub slot_out : used ≤ i → i - at ≡ slot a (drop at (toks (take used buf)))
-    slot_out = counting_out (slot a) (passes a) refl (slot_test a) buf used at l i c
-
-    module _ {y : Bool} (h : i < used) (ey : y ≡ passes a (tok_of (get_or buf i 0))) where
-      pub slot_stop : not y ≡ true → i - at ≡ slot a (drop at (toks (take used buf)))
-      slot_stop = counting_stop (slot a) (passes a) refl (slot_test a) buf used at l i c h ey
-
-      pub slot_turn : not y ≡ false → Counting (slot a) buf used at (i + 1)
-      slot_turn = counting_turn (slot a) (passes a) refl (slot_test a) buf used at l i c h ey
-
--- the attribute at a place
-pub held_past : (a : ℕ) (buf : List ℕ) (used at : ℕ) → used ≤ length buf → used ≤ at → 0 ≡ held a (drop at (toks (take used buf)))
-held_past a buf used at l h = rw (drop_of_length-le (toks (take used buf)) {i = at} (omega (arith, length_toks buf used l)))
-
-module _ (a : ℕ) (buf : List ℕ) (used at : ℕ) (l : used ≤ length buf) (h : at < used)
-    {y : Bool} {m : ℕ} (ey : y ≡ attr_tok (tok_of (get_or buf at 0))) (em : m ≡ get_or buf at 0 / 8) where
-  here : held a (drop at (toks (take used buf))) ≡ cond (y && eqb m a) (suc (values (drop (suc at) (toks (take used buf))))) 0
-  here = rw (rest_next buf used at h l, held_test, ← names_told a (get_or buf at 0) ey em)
-
-  pub held_other : not (y && eqb m a) ≡ true → 0 ≡ held a (drop at (toks (take used buf)))
-  held_other n = sym (here ∙ rw (not-true (y && eqb m a) n))
-
-  pub held_some : not (y && eqb m a) ≡ false → {n : ℕ} → n ≡ values (drop (at + 1) (toks (take used buf))) → n + 1 ≡ held a (drop at (toks (take used buf)))
-  held_some n e =
-      let z = rw add-one at e in
-      let w : held a (drop at (toks (take used buf))) ≡ suc (values (drop (suc at) (toks (take used buf)))) = here ∙ rw (not-false (y && eqb m a) n) in
-      omega arith
+  pub held_some : y && eqb m a ≡ true → {n : ℕ} → n ≡ values (toks l) → n + 1 ≡ held a (toks (t ∷ l))
+  held_some n e = let w : held a (toks (t ∷ l)) ≡ suc (values (toks l)) = here ∙ rw n in omega arith
 
 -- ---- how large the counts are
 
@@ -175,6 +123,5 @@ slot_le a (Attr n ∷ r) = go (ltb n a) (slot_le a r)
 slot_le a (Value n ∷ r) = omega (arith, slot_le a r)
 slot_le a (Bad ∷ r) = omega arith
 
-pub values_few : (buf : List ℕ) (used at : ℕ) {n : ℕ} → used ≤ length buf → n ≡ values (drop (at + 1) (toks (take used buf))) → n ≤ used
-values_few buf used at l e =
-    omega (arith, values_le (drop (at + 1) (toks (take used buf))), length-drop (at + 1) (toks (take used buf)), length_toks buf used l)
+pub values_few : (l : List ℕ) {n : ℕ} → n ≡ values (toks l) → n ≤ length l
+values_few l e = omega (arith, values_le (toks l), length-map l tok_of)

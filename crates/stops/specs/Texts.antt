@@ -1,17 +1,15 @@
 -- The pass over the children of an element that has texts alone. Assumes nothing.
-use Rattle.std.specs.Prelude.{◌≡◌, refl, Bool, true, false, not, List, [], ◌∷◌, ℕ, zero, suc, ◌+◌, ◌-◌, ◌/◌, ◌≤◌, ◌<◌, length, take, drop, get_or}
-use Rattle.std.proofs.Common.{sym, ap, ◌∙◌, add-one, sub-one, arith}
-use Rattle.std.proofs.lemmas.Bool.{not-true, not-false}
+use Rattle.std.specs.Prelude.{◌≡◌, refl, Bool, true, false, List, [], ◌∷◌, ℕ, zero, suc, ◌+◌, ◌-◌, ◌/◌, ◌≤◌, ◌<◌, length, drop, get_or, Ok, Err}
+use Rattle.std.proofs.Math.Option.{none, some}
+use Rattle.std.proofs.Common.{sym, ap, ◌∙◌, add-one, arith}
 use Rattle.paper.specs.declared.Tok.{Tok}
 use Rattle.paper.specs.declared.Tok.TheVariants.{Start, End, Text, Attr, Value, Bad}
 use Rattle.paper.specs.Tokens.{tok_of, toks, kids, starts}
 use Rattle.basic_laws.specs.Bools.{clash}
-use Rattle.shape_laws.specs.Ends.{rest_next, rest_none}
+use Rattle.shape_laws.specs.Ends.{rest_at, rest_past}
 use Rattle.tokens.specs.Sorts.{ends, text_tok}
 use Rattle.tokens.specs.Theorems.{start_iff, end_iff, text_iff}
-use Rattle.stops.specs.declared.Walk.{Walk}
-use Rattle.stops.specs.declared.Stop.TheVariants.{Nowhere, At}
-use Rattle.stops.specs.Stop.{texts_stop, Walked, walked_at}
+use Rattle.stops.specs.Stop.{texts_stop, walked}
 
 -- what is no start, no end and no text is passed over
 other : (x : Tok) (n i : ℕ) (r : List Tok) → starts x ≡ false → ends x ≡ false → text_tok x ≡ false → texts_stop n i (x ∷ r) ≡ texts_stop n (suc i) r
@@ -30,73 +28,74 @@ no_child (Attr m) r s e t = refl
 no_child (Value m) r s e t = refl
 no_child Bad r s e t = refl
 
--- where the children from place `at` on stop is where those from place i on do, with n texts more at most
-pub record Reading (doc : List ℕ) (used at most i n : ℕ) : Type 0 where
-  pub here : i ≤ used
+-- where the children from place `at` on stop is where those from place i on do, after n of so many texts at most
+pub record Reading (doc : List ℕ) (at most i n : ℕ) : Type 0 where
+  pub here : i ≤ length doc
   pub few : n ≤ most
-  pub counted : length (kids zero (drop at (toks (take used doc)))) + n ≡ most + length (kids zero (drop i (toks (take used doc))))
-  pub left : texts_stop most at (drop at (toks (take used doc))) ≡ texts_stop n i (drop i (toks (take used doc)))
+  pub counted : length (kids zero (drop at (toks doc))) ≡ n + length (kids zero (drop i (toks doc)))
+  pub left : texts_stop most at (drop at (toks doc)) ≡ texts_stop (most - n) i (drop i (toks doc))
 
-module _ (doc : List ℕ) (used at most : ℕ) where
+module _ (doc : List ℕ) (at most : ℕ) where
   abbrev d : List Tok
-  d = toks (take used doc)
+  d = toks doc
 
-  pub reading_begin : at ≤ used → Reading doc used at most at most
-  reading_begin h = record { here = h; few = omega arith; counted = omega arith; left = refl }
+  pub reading_begin : at ≤ length doc → Reading doc at most at 0
+  reading_begin h =
+      let z : most ≡ most - 0 = omega arith in
+      record { here = h; few = omega arith; counted = omega arith; left = ap (λ k. texts_stop k at (drop at d)) z }
 
-  module _ {i n : ℕ} (c : Reading doc used at most i n) where
+  module _ {i n : ℕ} (c : Reading doc at most i n) where
     -- no child is left
-    none : (rest : List Tok) → drop i (toks (take used doc)) ≡ rest → texts_stop n i rest ≡ Nowhere → length (kids zero rest) ≡ 0
-        → {w : Walk} → w ≡ record { stop = Nowhere; children = most - n }
-        → Walked (texts_stop most at (drop at (toks (take used doc)))) (drop at (toks (take used doc))) w
-    none rest e s k ew = rw ew (record {
-      stops = sym (c.left ∙ ap (texts_stop n i) e ∙ s);
-      counted = λ z. omega (arith, c.counted, c.few, ap (λ r. length (kids zero r)) e);
-    })
+    none_left : (rest : List Tok) → drop i (toks doc) ≡ rest → texts_stop (most - n) i rest ≡ none → length (kids zero rest) ≡ 0
+        → Ok n ≡ walked (texts_stop most at (drop at (toks doc))) (drop at (toks doc))
+    none_left rest e s k =
+        let z : n ≡ length (kids zero (drop at d)) = omega (arith, c.counted, ap (λ r. length (kids zero r)) e) in
+        ap Ok z ∙ ap (λ o. walked o (drop at d)) (sym (c.left ∙ ap (texts_stop (most - n) i) e ∙ s))
 
-    pub reading_out : used ≤ i → {w : Walk} → w ≡ record { stop = Nowhere; children = most - n }
-        → Walked (texts_stop most at (drop at (toks (take used doc)))) (drop at (toks (take used doc))) w
-    reading_out h = none [] (let z : i ≡ used = omega (arith, c.here) in rw (z, rest_none doc used)) refl refl
+    stops_here : texts_stop (most - n) i (drop i (toks doc)) ≡ some i → Err i ≡ walked (texts_stop most at (drop at (toks doc))) (drop at (toks doc))
+    stops_here e = ap (λ o. walked o (drop at d)) (sym (c.left ∙ e))
 
-    module _ (h : i < used) (l : used ≤ length doc) where
-      next : {x : Tok} → tok_of (get_or doc i 0) ≡ x → drop i (toks (take used doc)) ≡ x ∷ drop (suc i) (toks (take used doc))
-      next e = rw (rest_next doc used i h l, e)
+    pub reading_out : length doc ≤ i → Ok n ≡ walked (texts_stop most at (drop at (toks doc))) (drop at (toks doc))
+    reading_out h = none_left [] (rest_past doc i h) refl refl
 
-      pub reading_end : {x : Bool} → x ≡ ends (tok_of (get_or doc i 0)) → x ≡ true → {w : Walk} → w ≡ record { stop = Nowhere; children = most - n }
-          → Walked (texts_stop most at (drop at (toks (take used doc)))) (drop at (toks (take used doc))) w
-      reading_end ex t = none (End ∷ drop (suc i) d) (next ((end_iff (get_or doc i 0)).0 (sym ex ∙ t))) refl refl
+    module _ (h : i < length doc) where
+      next : {x : Tok} → tok_of (get_or doc i 0) ≡ x → drop i (toks doc) ≡ x ∷ drop (suc i) (toks doc)
+      next e = rw (rest_at doc i h, e)
 
-      pub reading_start : {y : Bool} → y ≡ starts (tok_of (get_or doc i 0)) → y ≡ true
-          → Walked (texts_stop most at (drop at (toks (take used doc)))) (drop at (toks (take used doc))) (record { stop = At i; children = 0 })
-      reading_start ey t = walked_at (texts_stop most at (drop at d)) (drop at d) i (sym (c.left ∙ ap (texts_stop n i) (next ((start_iff (get_or doc i 0)).0 (sym ey ∙ t)))))
+      pub reading_end : {x : Bool} → x ≡ ends (tok_of (get_or doc i 0)) → x ≡ true → Ok n ≡ walked (texts_stop most at (drop at (toks doc))) (drop at (toks doc))
+      reading_end ex t = none_left (End ∷ drop (suc i) d) (next ((end_iff (get_or doc i 0)).0 (sym ex ∙ t))) refl refl
+
+      pub reading_start : {y : Bool} → y ≡ starts (tok_of (get_or doc i 0)) → y ≡ true → Err i ≡ walked (texts_stop most at (drop at (toks doc))) (drop at (toks doc))
+      reading_start ey t = stops_here (ap (texts_stop (most - n) i) (next ((start_iff (get_or doc i 0)).0 (sym ey ∙ t))))
 
       module _ {z : Bool} (ez : z ≡ text_tok (tok_of (get_or doc i 0))) where
-        pub reading_other : {x y : Bool} → x ≡ ends (tok_of (get_or doc i 0)) → x ≡ false → y ≡ starts (tok_of (get_or doc i 0)) → y ≡ false → not z ≡ true
-            → Reading doc used at most (i + 1) n
+        pub reading_other : {x y : Bool} → x ≡ ends (tok_of (get_or doc i 0)) → x ≡ false → y ≡ starts (tok_of (get_or doc i 0)) → y ≡ false → z ≡ false
+            → Reading doc at most (i + 1) n
         reading_other ex f ey g k =
             let t : Tok = tok_of (get_or doc i 0) in
-            let same = no_child t (drop (suc i) d) (sym ey ∙ g) (sym ex ∙ f) (sym ez ∙ not-true z k) in
+            let same = no_child t (drop (suc i) d) (sym ey ∙ g) (sym ex ∙ f) (sym ez ∙ k) in
             rw add-one (record {
               here = omega arith;
               few = c.few;
               counted = omega (arith, c.counted, ap (λ r. length (kids zero r)) (next refl), ap length same);
-              left = c.left ∙ ap (texts_stop n i) (next refl) ∙ other t n i (drop (suc i) d) (sym ey ∙ g) (sym ex ∙ f) (sym ez ∙ not-true z k);
+              left = c.left ∙ ap (texts_stop (most - n) i) (next refl) ∙ other t (most - n) i (drop (suc i) d) (sym ey ∙ g) (sym ex ∙ f) (sym ez ∙ k);
             })
 
-        module _ (t : not z ≡ false) where
-          text : drop i (toks (take used doc)) ≡ Text (get_or doc i 0 / 8) ∷ drop (suc i) (toks (take used doc))
-          text = next ((text_iff (get_or doc i 0)).0 (sym ez ∙ not-false z t))
+        module _ (t : z ≡ true) where
+          text : drop i (toks doc) ≡ Text (get_or doc i 0 / 8) ∷ drop (suc i) (toks doc)
+          text = next ((text_iff (get_or doc i 0)).0 (sym ez ∙ t))
 
-          pub reading_more : n ≡ 0 → Walked (texts_stop most at (drop at (toks (take used doc)))) (drop at (toks (take used doc))) (record { stop = At i; children = 0 })
-          reading_more e = walked_at (texts_stop most at (drop at d)) (drop at d) i (sym (c.left ∙ ap (λ k. texts_stop k i (drop i d)) e ∙ ap (texts_stop 0 i) text))
+          pub reading_more : n ≡ most → Err i ≡ walked (texts_stop most at (drop at (toks doc))) (drop at (toks doc))
+          reading_more e =
+              let z : most - n ≡ 0 = omega arith in
+              stops_here (ap (λ k. texts_stop k i (drop i d)) z ∙ ap (texts_stop 0 i) text)
 
-          pub reading_text : (n ≡ 0 → ⊥) → Reading doc used at most (i + 1) (n - 1)
-          reading_text f = go n c.few c.counted (c.left ∙ ap (texts_stop n i) text) f
-            where
-              go : (n : ℕ) → n ≤ most → length (kids zero (drop at d)) + n ≡ most + length (kids zero (drop i d))
-                  → texts_stop most at (drop at d) ≡ texts_stop n i (Text (get_or doc i 0 / 8) ∷ drop (suc i) d)
-                  → (n ≡ 0 → ⊥) → Reading doc used at most (i + 1) (n - 1)
-              go zero m k q f = absurd (f refl)
-              go (suc n) m k q f =
-                  rw (add-one, sub-one)
-                  (record { here = omega arith; few = omega arith; counted = omega (arith, ap (λ r. length (kids zero r)) text); left = q })
+          pub reading_text : (n ≡ most → ⊥) → Reading doc at most (i + 1) (n + 1)
+          reading_text f =
+              let y : most - n ≡ suc (most - suc n) = omega (arith, c.few) in
+              rw (add-one, add-one) (record {
+                here = omega arith;
+                few = omega (arith, c.few);
+                counted = omega (arith, c.counted, ap (λ r. length (kids zero r)) text);
+                left = c.left ∙ ap (λ k. texts_stop k i (drop i d)) y ∙ ap (texts_stop (suc (most - suc n)) i) text;
+              })

@@ -1,8 +1,8 @@
 -- A step of a run, and its end, as the code finds them. Assumes nothing.
-use Rattle.std.specs.Prelude.{◌≡◌, refl, Bool, true, ◌&&◌, List, ℕ, ◌+◌, ◌^◌, ◌≤◌, ◌<◌, ltb, eqb, length, take, drop, get_or}
+use Rattle.std.specs.Prelude.{◌≡◌, refl, Bool, true, Option, Some, None, ◌&&◌, List, ℕ, ◌+◌, ◌^◌, ◌≤◌, ◌<◌, ltb, eqb, length, take, drop, get_or}
 use Rattle.std.proofs.Common.{sym, ap, ◌∙◌, arith, ltb-true, lt-ltb, length-drop, length-take-le, take-take, get_or-take, get_or-drop, pow_pos}
 use Rattle.std.proofs.Math.Bool.{and-eq-true_iff}
-use Rattle.std.proofs.Math.Option.{Option, none, some}
+use Rattle.std.proofs.Math.Option.{Option as Maybe, none, some}
 use Rattle.paper.specs.Basics.{find, distinct, most_names}
 use Rattle.paper.specs.Sets.{bit}
 use Rattle.paper.specs.Table.{cell, count_at, no_child_at, first_at, last_at, names_at, follow_at, chosen}
@@ -10,8 +10,6 @@ use Rattle.paper.specs.Rules.{State, start, at, set_at, move, ended}
 use Rattle.paper_laws.specs.Basics.{find_some, find_same, all_at}
 use Rattle.sets.specs.Chosen.{chosen_none, chosen_take}
 use Rattle.set_walks.specs.Named.{next_named, place, named_find}
-use Rattle.set_walks.specs.declared.Next.{Next}
-use Rattle.set_walks.specs.declared.Next.TheVariants.{At as There, Nowhere}
 use Rattle.table.specs.Run.{state_of, stepped, inside, sound, Ready, Stepped}
 use Rattle.table.specs.declared.Run.{Run}
 use Rattle.table.specs.declared.Run.TheVariants.{Start, At, Lost}
@@ -19,7 +17,7 @@ use Rattle.table.specs.declared.Run.TheVariants.{Start, At, Lost}
 -- ---- the next occurrence
 
 -- as a run
-abbrev pub to_run : Option ℕ → Run
+abbrev pub to_run : Maybe ℕ → Run
 to_run none = Lost
 to_run (some k) = At k
 
@@ -33,7 +31,7 @@ module _ (b : List ℕ) (g : Ready b) (w a : ℕ) (p : sound b w ≡ true) where
   abbrev names : List ℕ
   names = take most_names (drop names_at b)
 
-  next_move : (r : Next) → r ≡ next_named w names a → to_run (place r) ≡ moved b w a
+  next_move : (r : Option ℕ) → r ≡ next_named w names a → to_run (place r) ≡ moved b w a
   next_move r m =
       let (h, d) = (and-eq-true_iff (ltb w (2 ^ n)) (distinct (chosen w (take n (drop names_at b))))).0 p in
       let i : w < 2 ^ n = ltb-true w (2 ^ n) h in
@@ -44,11 +42,11 @@ module _ (b : List ℕ) (g : Ready b) (w a : ℕ) (p : sound b w ≡ true) where
       ∙ find_same (λ k. bit w k && eqb (get_or names k 0) a) (λ k. bit w k && eqb (cell b (names_at + k)) a) n
       (λ k l. ap (λ x. bit w k && eqb x a) (get_or-take most_names (drop names_at b) k 0 (omega arith) ∙ get_or-drop names_at b k 0)))
 
-  pub move_there : {r : Next} {k : ℕ} → r ≡ next_named w (take most_names (drop names_at b)) a → r ≡ There k → At k ≡ moved b w a
-  move_there {r} {k} m e = next_move (There k) (rw e at m)
+  pub move_there : {r : Option ℕ} {k : ℕ} → r ≡ next_named w (take most_names (drop names_at b)) a → r ≡ Some k → At k ≡ moved b w a
+  move_there {r} {k} m e = next_move (Some k) (rw e at m)
 
-  pub move_nowhere : {r : Next} → r ≡ next_named w (take most_names (drop names_at b)) a → r ≡ Nowhere → Lost ≡ moved b w a
-  move_nowhere {r} m e = next_move Nowhere (rw e at m)
+  pub move_nowhere : {r : Option ℕ} → r ≡ next_named w (take most_names (drop names_at b)) a → r ≡ None → Lost ≡ moved b w a
+  move_nowhere {r} m e = next_move None (rw e at m)
 
 -- ---- a step, and the end
 
@@ -70,7 +68,7 @@ module _ (b : List ℕ) (g : Ready b) where
   stay_inside : (s : State) (a : ℕ) → (state_of (moved b (set_at b s) a) ≡ stepped b (some s) a) × (inside b (state_of (moved b (set_at b s) a)) ≡ true)
   stay_inside s a = go (move b s a) refl
     where
-      go : (o : Option ℕ) → move b s a ≡ o
+      go : (o : Maybe ℕ) → move b s a ≡ o
           → (state_of (to_run o) ≡ elim o [ none ↦ none | some k ↦ some (at k) ]) × (inside b (state_of (to_run o)) ≡ true)
       go none q = (refl, refl)
       go (some k) q = (refl, lt-ltb k (cell b count_at) (find_some (λ k. bit (set_at b s) k && eqb (cell b (names_at + k)) a) (cell b count_at) k q).0)

@@ -14,7 +14,7 @@ ghost use Rattle.table.specs.Run.{state_of, inside, sound, Ready, Stepped};
 ghost use Rattle.table.specs.Step.{moved};
 
 use paper::{BLOCK_WORDS, BLOCKS_AT, FIRST_AT, FOLLOW_AT, LAST_AT, NAMES_AT, NO_CHILD_AT};
-use set_walks::{Next, next_named};
+use set_walks::next_named;
 use sets::has;
 
 // The block of element e.
@@ -51,8 +51,8 @@ fn move_to(block: &[u64], set: u64, child: u32) -> Run
     ensures { result ≡ moved block.now set child }
 {
     match next_named(set, &block[NAMES_AT..FOLLOW_AT], child as u64) {
-        Next::At(k) => Run::At(k),
-        Next::Nowhere => Run::Lost,
+        Some(k) => Run::At(k),
+        None => Run::Lost,
     }
 }
 

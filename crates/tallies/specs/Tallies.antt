@@ -13,7 +13,7 @@ use Rattle.basic_laws.specs.Bools.{clash}
 use Rattle.tokens.specs.Theorems.{start_iff}
 
 -- what f gives for k names from e on
-abbrev pub names_by : (ℕ → ℕ) → (e k : ℕ) → List ℕ
+abbrev pub names_by : {A : Type 0} → (ℕ → A) → (e k : ℕ) → List A
 names_by f e zero = []
 names_by f e (suc k) = f e ∷ names_by f (suc e) k
 
@@ -40,14 +40,14 @@ room_fits r i = record { fits = omega (arith, r.few i) }
 
 -- ---- the list by its places
 
-pub names_long : (f : ℕ → ℕ) (e k : ℕ) → length (names_by f e k) ≡ k
+pub names_long : {A : Type 0} → (f : ℕ → A) (e k : ℕ) → length (names_by f e k) ≡ k
 names_long f e zero = refl
 names_long f e (suc k) = ap suc (names_long f (suc e) k)
 
-pub names_at : (f : ℕ → ℕ) (e k i : ℕ) → i < k → get_or (names_by f e k) i 0 ≡ f (e + i)
-names_at f e zero i h = absurd (omega arith)
-names_at f e (suc k) zero h = ap f (omega arith)
-names_at f e (suc k) (suc i) h = names_at f (suc e) k i (omega arith) ∙ ap f (omega arith)
+pub names_at : {A : Type 0} → (d : A) (f : ℕ → A) (e k i : ℕ) → i < k → get_or (names_by f e k) i d ≡ f (e + i)
+names_at d f e zero i h = absurd (omega arith)
+names_at d f e (suc k) zero h = ap f (omega arith)
+names_at d f e (suc k) (suc i) h = names_at d f (suc e) k i (omega arith) ∙ ap f (omega arith)
 
 pub tallies_long : (E : ℕ) (d : List Tok) → length (tallies E d) ≡ most_elements
 unfolding tallies
@@ -55,7 +55,7 @@ tallies_long E d = names_long (λ e. counted E e (tally e d)) 0 most_elements
 
 pub tallies_at : (E : ℕ) (d : List Tok) (i : ℕ) → i < most_elements → get_or (tallies E d) i 0 ≡ counted E i (tally i d)
 unfolding tallies
-tallies_at E d i h = names_at (λ e. counted E e (tally e d)) 0 most_elements i h ∙ ap (λ e. counted E e (tally e d)) (omega arith)
+tallies_at E d i h = names_at 0 (λ e. counted E e (tally e d)) 0 most_elements i h ∙ ap (λ e. counted E e (tally e d)) (omega arith)
 
 -- ---- how many there can be
 

@@ -22,7 +22,7 @@ fn note(into: &mut [u32], elements: u32, t: u32)
     let name = number(t);
     if name < elements {
         let at = name as usize;
-        into[at] = into[at] + 1;
+        into[at] += 1;
     }
 }
 
@@ -31,10 +31,7 @@ pub fn tally(part: &[u32], elements: u32, into: &mut [u32])
     requires { (elements ≤ most_elements) × (length part.now ≤ most_tokens) × (into.old ≡ replicate most_elements 0) }
     ensures { into.new ≡ tallies elements (toks part.now) }
 {
-    let n = part.len();
-    let mut i = 0;
-    while i < n {
-        note(into, elements, part[i]);
-        i += 1;
+    for &t in part {
+        note(into, elements, t);
     }
 }

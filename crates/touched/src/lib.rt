@@ -14,32 +14,22 @@ ghost use Rattle.touched.specs.Touched.{OfPiece, Looked};
 ghost use Rattle.touched.specs.Judged.{Elements, Found};
 
 use cost::own;
-use judge::{element_fault, root_number};
+use judge::{element_fault, root_fault};
 use keys::key_fault;
+use paper::Fault;
 use piece_faults::piece_fault;
 use places::parent_of;
 
-// What the judgement of an edited document gives: its first fault; where there is none, the number of children looked at.
-#[derive(Clone, Copy)]
-pub struct Finding {
-    pub number: u32,
-    pub place: u32,
-    pub children: u32,
-}
-
-// The elements of the piece, `coming` tokens at a place: their first fault, and their children with those of the parent.
-fn with_piece(table: &[u64], doc: &[u32], at: usize, coming: usize, over: u32) -> Finding
+// The elements of the piece, `coming` tokens at a place: their first fault, or their children with those of the parent.
+fn with_piece(table: &[u64], doc: &[u32], at: usize, coming: usize, over: u32) -> Result<u32, Fault>
     requires table_value { proper table.now ≡ true }
     requires coming_in_bounds { (at + coming ≤ length doc.now) × (at + coming ≤ most_tokens) × (over ≤ most_tokens) }
     ensures { OfPiece table.now doc.now at coming over result }
 {
-    let fault = piece_fault(table, doc, at, coming);
-    let children = over + own(doc, at, at + coming);
-    Finding {
-        number: fault.number,
-        place: fault.place,
-        children,
-    }
+    let piece = &doc[at..at + coming];
+    piece_fault(table, piece, at)?;
+    let children = over + own(piece);
+    Ok(children)
 }
 
 // "7, 8 and 9 only at touched elements": the parent, then the elements of the piece. Item 10: "children and texts of the touched parent (or
@@ -48,72 +38,44 @@ fn with_piece(table: &[u64], doc: &[u32], at: usize, coming: usize, over: u32) -
 fn touched_fault(
     table: &[u64],
     doc: &[u32],
-    used: usize,
     at: usize,
     coming: usize,
     parent: usize,
-) -> Finding
+) -> Result<u32, Fault>
     requires table_value { proper table.now ≡ true }
-    requires used_in_bounds { (used ≤ length doc.now) × (used ≤ most_tokens) × (at + coming ≤ used) }
+    requires coming_in_bounds { (length doc.now ≤ most_tokens) × (at + coming ≤ length doc.now) }
     requires comes { Comes (drop at (toks (take (at + coming) doc.now))) }
     requires parent_value { parent ≡ parent_of (toks (take at doc.now)) }
-    ensures { Looked table.now doc.now used at coming result }
+    ensures { Looked table.now doc.now at coming result }
 {
     if at <= parent {
         return with_piece(table, doc, at, coming, 0);
     }
-    let over = element_fault(table, doc, used, &[], parent);
-    if over.number != paper::DONE {
-        return Finding {
-            number: over.number,
-            place: over.place,
-            children: 0,
-        };
-    }
-    with_piece(table, doc, at, coming, over.children)
+    let over = element_fault(table, doc, &[], parent)?;
+    with_piece(table, doc, at, coming, over)
 }
 
-// The root and the elements that are touched (7 to 10), without IDs and references. The piece is `coming` tokens at a place.
-pub fn judged_elements(table: &[u64], doc: &[u32], used: usize, at: usize, coming: usize) -> Finding
+// The root and the elements that are touched (7 to 10), without IDs and references: the first fault, or how many children were looked at.
+// The piece is `coming` tokens at a place.
+pub fn judged_elements(table: &[u64], doc: &[u32], at: usize, coming: usize) -> Result<u32, Fault>
     requires table_value { proper table.now ≡ true }
-    requires used_in_bounds { (used ≤ length doc.now) × (used ≤ most_tokens) × (at + coming ≤ used) }
+    requires coming_in_bounds { (length doc.now ≤ most_tokens) × (at + coming ≤ length doc.now) }
     requires comes { Comes (drop at (toks (take (at + coming) doc.now))) }
-    ensures { Elements table.now doc.now used at coming result }
+    ensures { Elements table.now doc.now at coming result }
 {
-    let root = root_number(table, doc, used);
-    if root != paper::DONE {
-        return Finding {
-            number: root,
-            place: 0,
-            children: 0,
-        };
-    }
+    root_fault(table, doc)?;
     let parent = parent_of(doc, at);
-    touched_fault(table, doc, used, at, coming, parent)
+    touched_fault(table, doc, at, coming, parent)
 }
 
-// "Then the edited document is judged as above": its first `used` tokens, at what is touched, IDs and references included.
-pub fn judged(table: &[u64], doc: &[u32], used: usize, at: usize, coming: usize) -> Finding
+// "Then the edited document is judged as above", at what is touched, IDs and references included.
+pub fn judged(table: &[u64], doc: &[u32], at: usize, coming: usize) -> Result<u32, Fault>
     requires table_value { proper table.now ≡ true }
-    requires used_in_bounds { (used ≤ length doc.now) × (used ≤ most_tokens) × (at + coming ≤ used) }
+    requires coming_in_bounds { (length doc.now ≤ most_tokens) × (at + coming ≤ length doc.now) }
     requires comes { Comes (drop at (toks (take (at + coming) doc.now))) }
-    ensures { Found table.now doc.now used at coming result }
+    ensures { Found table.now doc.now at coming result }
 {
-    let seen = judged_elements(table, doc, used, at, coming);
-    if seen.number != paper::DONE {
-        return seen;
-    }
-    let fault = key_fault(table, doc, used);
-    if fault.number != paper::DONE {
-        return Finding {
-            number: fault.number,
-            place: fault.place,
-            children: 0,
-        };
-    }
-    Finding {
-        number: fault.number,
-        place: fault.place,
-        children: seen.children,
-    }
+    let children = judged_elements(table, doc, at, coming)?;
+    key_fault(table, doc)?;
+    Ok(children)
 }

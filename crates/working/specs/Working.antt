@@ -1,6 +1,6 @@
 -- The edits of a group, worked on a second buffer: one turn, what holds between turns, and how they end. Assumes nothing.
-use Rattle.std.specs.Prelude.{◌≡◌, refl, true, List, ◌∷◌, ℕ, suc, ◌+◌, ◌-◌, ◌≤◌, ◌<◌, max, length, take}
-use Rattle.std.proofs.Common.{sym, ap, ap₂, subst, ◌∙◌, arith, ne_eqb, length-take, take-append-drop, take-take, length-take-le}
+use Rattle.std.specs.Prelude.{◌≡◌, refl, true, List, ◌∷◌, ℕ, suc, ◌+◌, ◌-◌, ◌≤◌, ◌<◌, max, length, take, Result, Ok, Err}
+use Rattle.std.proofs.Common.{sym, ap, ap₂, ◌∙◌, arith, ne_eqb, length-take, take-append-drop, length-take-le}
 use Rattle.paper.specs.Basics.{most_edits}
 use Rattle.paper.specs.Shape.{shape_of}
 use Rattle.paper.specs.Edits.{Request, edited, form_fault, written}
@@ -13,55 +13,64 @@ use Rattle.edit_list.specs.declared.Edit.{Edit}
 use Rattle.edit_list.specs.Places.{Within, edit_at, Handed, request_of}
 use Rattle.edit_list.specs.Left.{Left, Whole, left_all, Next, left_none, left_next}
 use Rattle.form.specs.declared.Form.{Form}
-use Rattle.form.specs.Form.{Formed}
-use Rattle.working.specs.declared.Tested.{Tested}
-use Rattle.working.specs.declared.Worked.{Worked}
+use Rattle.form.specs.Form.{InForm}
+use Rattle.working.specs.declared.Stopped.{Stopped}
+use Rattle.paper.specs.declared.Refusal.{Refusal}
+use Rattle.paper.specs.declared.Refusal.TheVariants.{Broken, Schema, Ambiguous, Shape, Room, Place, Name, Attributes, Content, Root, IdTwice, NoId, Table, DtdText, Counts, NotCompared}
+use Rattle.paper.specs.Codes.{number_of}
+
+-- a refusal has a number that is not 0
+pub some_number : (r : Refusal) → number_of r ≡ 0 → ⊥
+some_number Broken e = cc
+some_number Schema e = cc
+some_number Ambiguous e = cc
+some_number Shape e = cc
+some_number Room e = cc
+some_number Place e = cc
+some_number Name e = cc
+some_number Attributes e = cc
+some_number Content e = cc
+some_number Root e = cc
+some_number IdTwice e = cc
+some_number NoId e = cc
+some_number Table e = cc
+some_number DtdText e = cc
+some_number Counts e = cc
+some_number NotCompared e = cc
 
 -- ---- one turn
 
--- an edit of the document in a buffer: its number of form; refused, it leaves the buffer, and else it makes the edited document in it
-pub record Turned (room : ℕ) (q : Request) (second : List ℕ) (used : ℕ) (r : Tested) (after : List ℕ) : Type 0 where
-  pub number : r.number ≡ form_fault room q (take used second)
-  pub stays : (r.number ≡ 0 → ⊥) → (r.used ≡ used) × (after ≡ second)
-  pub goes : r.number ≡ 0 → (r.used ≡ length (edited q (take used second))) × (after ≡ written second used (edited q (take used second)))
+-- an edit of the document in a buffer, in form: n tokens, and `after` holds them
+pub record Done (room : ℕ) (q : Request) (second : List ℕ) (used : ℕ) (after : List ℕ) (n : ℕ) : Type 0 where
+  pub good : form_fault room q (take used second) ≡ 0
+  pub size : n ≡ length (edited q (take used second))
+  pub made : after ≡ written second used (edited q (take used second))
 
-module _ (room op place : ℕ) (piece second : List ℕ) (used : ℕ) (fits : room ≤ length second) (within : used ≤ room) where
-  abbrev q : Request
-  q = record { operation = op; place = place; piece = piece }
+-- .. refused, it leaves the buffer
+abbrev pub Turned : ℕ → Request → List ℕ → ℕ → List ℕ → Result ℕ Refusal → Type 0
+Turned room q second used after (Ok n) = Done room q second used after n
+Turned room q second used after (Err r) = (number_of r ≡ form_fault room q (take used second)) × (after ≡ second)
 
-  module _ {f : Form} {new : List ℕ} (told : Formed (length (take room second)) q (take used (take room second)) f new) where
-    -- by the first buffer's places, of the document alone
-    its : Formed room q (take used second) f new
-    its = subst (λ l. Formed room q l f new) (take-take used room second within) (subst (λ n. Formed n q (take used (take room second)) f new) (length-take-le room second fits) told)
+module _ (room op place : ℕ) (piece second : List ℕ) (used : ℕ) {f : Form} {new : List ℕ}
+    (its : InForm room (record { operation = op; place = place; piece = piece }) (take used second) new f) where
+  pub turn_room : room ≤ length second → length (take f.used new) ≤ length second
+  turn_room h = omega (arith, ap length its.tokens, edited_fits room (record { operation = op; place = place; piece = piece }) (take used second) its.none)
 
-    pub turn_refused : {r : Tested} → (f.number ≡ 0 → ⊥) → r ≡ record { number = f.number; used = used } → Turned room q second used r second
-    turn_refused h e = rw e (record { number = its.number; stays = λ n. (refl, refl); goes = λ z. absurd (h z) })
+  pub turn_long : f.used ≤ length new
+  turn_long = omega (arith, its.size, ap length its.tokens, length-take f.used new)
 
-    module _ (z : f.number ≡ 0) where
-      in_form : form_fault room q (take used second) ≡ 0
-      in_form = sym its.number ∙ z
-
-      pub turn_room : f.used ≤ length second
-      turn_room = omega (arith, its.size z, edited_fits room q (take used second) in_form)
-
-      pub turn_long : f.used ≤ length new
-      turn_long = omega (arith, its.size z, ap length (its.tokens z), length-take f.used new)
-
-      pub turn_done : {r : Tested} {after : List ℕ} → after ≡ written second used (take f.used new) → r ≡ record { number = 0; used = f.used }
-          → Turned room q second used r after
-      turn_done a e = rw e (record {
-        number = sym in_form;
-        stays = λ n. absurd (n refl);
-        goes = λ y. (its.size z, a ∙ ap (written second used) (its.tokens z));
-      })
+  pub turn_done : {after : List ℕ} → after ≡ written second used (take f.used new) → Turned room (record { operation = op; place = place; piece = piece }) second used after (Ok f.used)
+  turn_done a = record { good = its.none; size = its.size; made = a ∙ ap (written second used) its.tokens }
 
 -- ---- how they end
 
+abbrev pub Answered : (second : List ℕ) → Work → (after : List ℕ) → Result ℕ Stopped → Type 0
+Answered second w after (Ok n) = (0 ≡ w.number) × (0 ≡ w.which) × (n ≡ length w.doc) × (after ≡ reached_in second w)
+Answered second w after (Err s) = (number_of s.refusal ≡ w.number) × (s.which ≡ w.which) × (s.used ≡ length w.doc) × (after ≡ reached_in second w)
+
 -- what the edits of a list came to, and what the second buffer holds then
-pub record Came (second : List ℕ) (room used : ℕ) (list : List ℕ) (r : Worked) (after : List ℕ) : Type 0 where
-  pub told : (es : List Request) → split_list list ≡ edits es
-      → let w : Work = worked room 1 used (take used second) es in
-      (r.number ≡ w.number) × (r.which ≡ w.which) × (r.used ≡ length w.doc) × (after ≡ reached_in second w)
+pub record Came (second : List ℕ) (room used : ℕ) (list after : List ℕ) (r : Result ℕ Stopped) : Type 0 where
+  pub told : (es : List Request) → split_list list ≡ edits es → Answered second (worked room 1 used (take used second) es) after r
 
 -- ---- between turns
 
@@ -123,12 +132,12 @@ module _ (start : List ℕ) (room used : ℕ) (list : List ℕ) where
       working_shape =
           ap₂ shape_of w.now w.ends ∙ written_shape start w.longest w.doc (omega (arith, w.fits)) (omega (arith, w.fits, w.most)) w.shape
 
-      pub working_end : length list ≤ at → {r : Worked} → r ≡ record { number = 0; which = 0; used = end } → Came start room used list r second
-      working_end g {r} e = record {
+      pub working_end : length list ≤ at → Came start room used list second (Ok end)
+      working_end g = record {
         told = λ all a.
             let same : worked room 1 used (take used start) all ≡ record { number = 0; which = 0; doc = w.doc; longest = w.longest } =
             w.same all a ∙ ap (worked room (suc begun) w.longest w.doc) (left_none list at begun w.es w.left g) in
-            rw (same, e) (refl, refl, w.ends, w.now);
+            rw same (refl, refl, w.ends, w.now);
       }
 
       module _ (g : at < length list) where
@@ -141,12 +150,12 @@ module _ (start : List ℕ) (room used : ℕ) (list : List ℕ) where
         pub working_few : begun < most_edits
         working_few = omega (arith, next.left.few)
 
-        module _ {e : Edit} (o : Handed list at e) {t : Tested} {after : List ℕ} (d : Turned room (request_of list e) second end t after) where
+        module _ {e : Edit} (o : Handed list at e) where
           abbrev q_next : Request
           q_next = request_of list (edit_at list at)
 
-          number_is : t.number ≡ form_fault room q_next w.doc
-          number_is = d.number ∙ ap₂ (λ (x : Edit) l. form_fault room (request_of list x) l) o.same holds
+          number_is : form_fault room (request_of list e) (take end second) ≡ form_fault room q_next w.doc
+          number_is = ap₂ (λ (x : Edit) l. form_fault room (request_of list x) l) o.same holds
 
           made_is : edited (request_of list e) (take end second) ≡ edited q_next w.doc
           made_is = ap₂ (λ (x : Edit) l. edited (request_of list x) l) o.same holds
@@ -154,21 +163,23 @@ module _ (start : List ℕ) (room used : ℕ) (list : List ℕ) where
           worked_is : (all : List Request) → split_list list ≡ edits all → worked room 1 used (take used start) all ≡ worked room (suc begun) w.longest w.doc (q_next ∷ next.rest)
           worked_is all a = w.same all a ∙ ap (worked room (suc begun) w.longest w.doc) next.first
 
-          pub working_refused : (t.number ≡ 0 → ⊥) → {r : Worked} → r ≡ record { number = t.number; which = begun + 1; used = t.used } → Came start room used list r after
-          working_refused n {r} f = record {
+          pub working_refused : (r : Refusal) {after : List ℕ} → (number_of r ≡ form_fault room (request_of list e) (take end second)) × (after ≡ second)
+              → Came start room used list after (Err (record { refusal = r; which = begun + 1; used = end }))
+          working_refused r (d, stays) = record {
             told = λ all a.
-                let bad = ne_eqb (form_fault room q_next w.doc) 0 (λ z. n (number_is ∙ z)) in
+                let n : number_of r ≡ form_fault room q_next w.doc = d ∙ number_is in
+                let bad = ne_eqb (form_fault room q_next w.doc) 0 (λ z. some_number r (n ∙ z)) in
                 let same : worked room 1 used (take used start) all
                 ≡ record { number = form_fault room q_next w.doc; which = suc begun; doc = w.doc; longest = w.longest } = worked_is all a ∙ rw bad in
                 let one : begun + 1 ≡ suc begun = omega arith in
-                rw (same, f) (number_is, one, (d.stays n).0 ∙ w.ends, (d.stays n).1 ∙ w.now);
+                rw same (n, one, w.ends, stays ∙ w.now);
           }
 
-          pub working_next : t.number ≡ 0 → Working e.to (begun + 1) t.used after
-          working_next z =
-              let f : form_fault room q_next w.doc ≡ 0 = sym number_is ∙ z in
+          pub working_next : {n : ℕ} {after : List ℕ} → Done room (request_of list e) second end after n → Working e.to (begun + 1) n after
+          working_next d =
+              let f : form_fault room q_next w.doc ≡ 0 = sym number_is ∙ d.good in
               let new : List ℕ = edited q_next w.doc in
-              let there : after ≡ written second end new = (d.goes z).1 ∙ ap (written second end) made_is in
+              let there : _ ≡ written second end new = d.made ∙ ap (written second end) made_is in
               let one : begun + 1 ≡ suc begun = omega arith in
               record {
                 es = next.rest;
@@ -177,7 +188,7 @@ module _ (start : List ℕ) (room used : ℕ) (list : List ℕ) where
                 left = rw o.same next.left;
                 same = λ all a. worked_is all a ∙ rw (f, one);
                 now = there ∙ ap₂ (λ l n. written l n new) w.now w.ends ∙ written_twice start w.longest w.doc new ∙ longer new;
-                ends = (d.goes z).0 ∙ ap length made_is;
+                ends = d.size ∙ ap length made_is;
                 most = omega arith;
                 fits = omega (arith, w.fits, edited_fits room q_next w.doc f);
                 shape = edited_shape room q_next w.doc f w.shape;

@@ -8,17 +8,15 @@ ghost use Rattle.paper.specs.Basics.{most_tokens};
 ghost use Rattle.paper.specs.Edits.{written};
 ghost use Rattle.written.specs.Written.{cleared};
 
-use copying::copy_tokens;
+use copying::copy;
 
 // Writes 0 from a place up to another.
 fn clear(doc: &mut [u32], from: usize, to: usize)
     requires { to ≤ length doc.old }
     ensures { doc.new ≡ cleared doc.old from to }
 {
-    let mut p = from;
-    while p < to {
-        doc[p] = 0;
-        p += 1;
+    if from < to {
+        doc[from..to].fill(0);
     }
 }
 
@@ -30,12 +28,12 @@ pub fn change_of(old: usize, new: usize) -> i32
     (new as i32) - (old as i32)
 }
 
-// "Done: places from the new length to the old hold 0, later ones are untouched": writes the tokens of new up to `end`. Those before `at`
-// stand in the document already.
-pub fn write(doc: &mut [u32], used: usize, new: &[u32], at: usize, end: usize)
-    requires { (at ≤ end) × (end ≤ length doc.old) × (end ≤ length new.now) × (used ≤ length doc.old) × (take at (take end new.now) ≡ take at doc.old) }
-    ensures { doc.new ≡ written doc.old used (take end new.now) }
+// "Done: places from the new length to the old hold 0, later ones are untouched": writes the tokens of new. Those before `at` stand in the
+// document already.
+pub fn write(doc: &mut [u32], used: usize, new: &[u32], at: usize)
+    requires { (at ≤ length new.now) × (length new.now ≤ length doc.old) × (used ≤ length doc.old) × (take at new.now ≡ take at doc.old) }
+    ensures { doc.new ≡ written doc.old used new.now }
 {
-    copy_tokens(doc, at, new, at, end - at);
-    clear(doc, end, used);
+    copy(doc, at, new, at, new.len() - at);
+    clear(doc, new.len(), used);
 }

@@ -2,19 +2,16 @@
 use Rattle.std.specs.Prelude.{◌≡◌, refl, ◌&&◌, List, [], ◌∷◌, ℕ, ◌^◌, ◌<◌, ltb, eqb}
 use Rattle.std.proofs.Common.{sym, ap, ap₂, ◌∙◌, arith, ltb-true, lt-ltb, eqb-true, eq-eqb, pow_pos}
 use Rattle.std.proofs.Math.Bool.{and_assoc, and-true, and-eq-true_iff}
+use Rattle.std.specs.List.{fold}
 use Rattle.std.specs.Int.Bits.{bit_or, or_add_and}
 use Rattle.std.proofs.lemmas.Nat.{or_lt, and_le_l, and_le_r}
 use Rattle.paper.specs.Basics.{all}
 use Rattle.paper.specs.Table.{zeros}
 use Rattle.basic_laws.specs.Bools.{same_test}
 
--- `members`, with those of each set in the list
-abbrev pub union_with : ℕ → List ℕ → ℕ
-union_with members [] = members
-union_with members (w ∷ l) = union_with (bit_or members w) l
-
+-- the members of each set in the list
 abbrev pub union : List ℕ → ℕ
-union l = union_with 0 l
+union l = fold bit_or 0 l
 
 -- a union uses only the lowest n bits where each of its sets does
 pub or_lowest : (n v w : ℕ) → ltb (bit_or v w) (2 ^ n) ≡ (ltb v (2 ^ n) && ltb w (2 ^ n))
@@ -29,7 +26,7 @@ or_lowest n v w = same_test (ltb (bit_or v w) (2 ^ n)) (ltb v (2 ^ n) && ltb w (
     let (p, q) = (and-eq-true_iff (ltb v (2 ^ n)) (ltb w (2 ^ n))).0 e in
     lt-ltb (bit_or v w) (2 ^ n) (or_lt n v w (ltb-true v (2 ^ n) p) (ltb-true w (2 ^ n) q)))
 
-union_with_lowest : (n members : ℕ) (l : List ℕ) → ltb (union_with members l) (2 ^ n) ≡ (ltb members (2 ^ n) && all (λ w. ltb w (2 ^ n)) l)
+union_with_lowest : (n members : ℕ) (l : List ℕ) → ltb (fold bit_or members l) (2 ^ n) ≡ (ltb members (2 ^ n) && all (λ w. ltb w (2 ^ n)) l)
 union_with_lowest n members [] = sym (and-true (ltb members (2 ^ n)))
 union_with_lowest n members (w ∷ l) =
     union_with_lowest n (bit_or members w) l ∙ ap (λ b. b && all (λ w. ltb w (2 ^ n)) l) (or_lowest n members w)

@@ -11,13 +11,7 @@ ghost use Rattle.zeros.specs.Union.{union};
 pub fn union_of(words: &[u64]) -> u64
     ensures { result ≡ union words.now }
 {
-    let mut members: u64 = 0;
-    let mut i = 0;
-    while i < words.len() {
-        members = members | words[i];
-        i += 1;
-    }
-    members
+    words.iter().fold(0, |members, word| members | *word)
 }
 
 // Each number is 0.

@@ -1,10 +1,6 @@
 -- `unambiguous` meets its contract. The loop: the answer is that of the follow sets from k on, and the set before holds no two. Assumes nothing.
-use Prim.Native.Nat.{◌-◌}
 use Rattle.ambiguity.proofs.Sharing.{Going}
 use Rattle.ambiguity.proofs.unambiguous.Given as goal
 
 abbrev pub invariant-loop-k : goal.invariant-loop-k
 invariant-loop-k l = Going l.count l.first l.names l.follow l.known l.k
-
-abbrev pub decreases-loop-k : goal.decreases-loop-k
-decreases-loop-k l = l.count - l.k

@@ -7,8 +7,8 @@ use Rattle.back.proofs.note.Goals as goal
 pub note_head-requires : goal.note_head-requires
 note_head-requires c = search (rules, at_near, count_few)
 
-pub copy_tokens-requires : goal.copy_tokens-requires
-copy_tokens-requires c =
+pub copy-requires : goal.copy-requires
+copy-requires c =
     let a = c.args in
     let e = c.adds.ensures in
     let room = added_room a.operation a.place a.piece.now a.doc.now a.at a.cut c.requires.cuts e c.if-adds.true in (
@@ -16,8 +16,8 @@ copy_tokens-requires c =
       added_some a.operation a.place a.piece.now a.doc.now a.at a.cut c.requires.cuts e c.if-adds.true,
     )
 
-pub copy_tokens-requires-else-adds : goal.copy_tokens-requires-else-adds
-copy_tokens-requires-else-adds c =
+pub copy-requires-else-adds : goal.copy-requires-else-adds
+copy-requires-else-adds c =
     let a = c.args in
     let room = went_room a.operation a.place a.piece.now a.doc.now a.at a.cut c.requires.cuts c.adds.ensures c.if-adds.false in
     (omega (arith, c.note_head.auto.second, room, c.requires.doc_in_bounds), omega (arith, c.requires.cuts.within))

@@ -1,10 +1,7 @@
--- `breadth::expand` meets its contract. The loop's invariant is `Trying`; the measure is how many names are left. Assumes nothing.
-use Prim.Native.Nat.{◌-◌}
+-- `breadth::expand` meets its contract. The loop's invariant is `Trying`. Assumes nothing.
+use Rattle.trail.specs.Entries.{mets, froms, names}
 use Rattle.breadth.specs.Going.{Trying}
 use Rattle.breadth.proofs.expand.Given as goal
 
-abbrev pub invariant-loop-a : goal.invariant-loop-a
-invariant-loop-a l = Trying l.old l.new l.elements l.seen l.met l.from l.name l.head l.end l.pair l.a
-
-abbrev pub decreases-loop-a : goal.decreases-loop-a
-decreases-loop-a l = l.elements - l.a
+abbrev pub invariant-loop-child : goal.invariant-loop-child
+invariant-loop-child l = Trying l.old l.new l.elements l.seen (mets l.entries) (froms l.entries) (names l.entries) l.head l.end l.pair l.child

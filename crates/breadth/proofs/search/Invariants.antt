@@ -2,11 +2,12 @@
 use mathlib.Core.Path.{◌≡◌}
 use Prim.Native.Nat.{◌-◌}
 use Rattle.paper.specs.Basics.{sequence_places}
+use Rattle.trail.specs.Entries.{mets, froms, names}
 use Rattle.breadth.specs.Going.{Going}
 use Rattle.breadth.proofs.search.Given as goal
 
 abbrev pub invariant-loop-head : goal.invariant-loop-head
-invariant-loop-head l = Going l.old l.new l.elements l.seen l.met l.from l.name l.head l.tail × (l.sequence ≡ l.initial.sequence)
+invariant-loop-head l = Going l.old l.new l.elements l.seen (mets l.entries) (froms l.entries) (names l.entries) l.head l.tail × (l.sequence ≡ l.initial.sequence)
 
 abbrev pub decreases-loop-head : goal.decreases-loop-head
 decreases-loop-head l = sequence_places - l.head

@@ -1,23 +1,26 @@
 -- `checks::check` meets its contract. Assumes nothing.
+use mathlib.Core.Path.{refl}
+use Rattle.std.proofs.lemmas.Result.{err_from_is_err_and}
+use Rattle.paper_laws.specs.Codes.{refused}
 use Rattle.checks.specs.Checked.{valid_first, valid_fits, valid_part, valid_few, check_left, check_written}
 use Rattle.checks.proofs.check.Goals as goal
 
-pub returns-then-said-ne-DONE : goal.returns-then-said-ne-DONE
-returns-then-said-ne-DONE c = search check_left
+pub returns-in_err-check : goal.returns-in_err-check
+returns-in_err-check c =
+    let p = err_from_is_err_and c.from_residual.result c.from_residual.ensures.1 in
+    rw (p.1, p.2) (check_left c.args.table.now c.args.doc.now c.args.used c.in_err-check.ensures (refused c.in_err-check.field-0.0.refusal))
 
 pub bounds-table-0 : goal.bounds-table-0
-bounds-table-0 c = search valid_first
+bounds-table-0 c = valid_first c.args.table.now c.args.doc.now c.args.used c.in_ok-check.ensures refl
 
 pub overflow_cast-elements : goal.overflow_cast-elements
-overflow_cast-elements c = search valid_fits
+overflow_cast-elements c = valid_fits c.args.table.now c.args.doc.now c.args.used c.in_ok-check.ensures refl
 
 pub slice_bounds-count-end : goal.slice_bounds-count-end
-slice_bounds-count-end c = search valid_part
+slice_bounds-count-end c = valid_part c.args.table.now c.args.doc.now c.args.used c.in_ok-check.ensures refl
 
 pub count-requires : goal.count-requires
-count-requires c =
-    let a = c.args in
-    valid_few a.table.now a.doc.now a.used c.check-said.ensures c.if-said-ne-DONE.false
+count-requires c = valid_few c.args.table.now c.args.doc.now c.args.used c.in_ok-check.ensures refl
 
 pub returns : goal.returns
-returns c = search check_written
+returns c = check_written c.args.table.now c.args.doc.now c.args.used c.in_ok-check.ensures c.args.counts.now refl c.count.ensures

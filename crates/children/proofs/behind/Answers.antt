@@ -7,18 +7,15 @@ use Rattle.children.proofs.behind.Goals as goal
 
 pub overflow_add-result : goal.overflow_add-result
 overflow_add-result c =
-    let h = behind_within c.args.doc.now c.args.used c.args.i c.requires.used_in_bounds.0 c.requires.used_in_bounds.1 in
+    let h = behind_within c.args.doc.now c.args.i c.requires.place_in_bounds in
     let e = c.end_of.ensures in
     search (rules, e, h)
 
 pub overflow_cast-result : goal.overflow_cast-result
 overflow_cast-result c = omega (arith, c.type_inv.closes (c.args.i + 1))
 
-pub overflow_add-result-then-j-used : goal.overflow_add-result-then-j-used
-overflow_add-result-then-j-used c = omega (arith, c.type_inv.closes (c.args.i + 1))
-
-pub returns-then-j-used : goal.returns-then-j-used
-returns-then-j-used c = search behind_end
+pub returns-then-i-doc : goal.returns-then-i-doc
+returns-then-i-doc c = search behind_end
 
 pub returns : goal.returns
 returns c = search behind_last

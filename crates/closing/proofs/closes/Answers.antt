@@ -1,6 +1,5 @@
+use Rattle.std.proofs.Common.{◌≤◌, length, arith}
 use Rattle.closing.specs.ClosingTurns.{closing_none, closing_turn, closing_all, closing_low}
-use Prim.Native.Nat.{◌≤◌}
-use native.Mathlib.Omega.{arith}
 use Rattle.closing.proofs.closes.Goals as goal
 
 pub loop-p-init : goal.loop-p-init
@@ -9,7 +8,7 @@ loop-p-init c = search closing_none
 pub overflow_cast-out : goal.overflow_cast-out
 overflow_cast-out c =
     let a = c.args in
-    let h : c.closing_at-e.result ≤ a.used = search closing_low in
+    let h : c.closing_at-e.result ≤ length a.doc.now = search closing_low in
     omega arith
 
 pub loop-p-preserved : goal.loop-p-preserved

@@ -1,8 +1,5 @@
-use Rattle.closing.specs.Closing.{closing_next, closing_past, closing_end, closing_other}
+use Rattle.closing.specs.Closing.{closing_past, closing_end, closing_other}
 use Rattle.closing.proofs.closing_at.Goals as goal
-
-pub returns-then-j-used : goal.returns-then-j-used
-returns-then-j-used c = search closing_next
 
 pub returns-then-is_start : goal.returns-then-is_start
 returns-then-is_start c = search closing_past

@@ -1,21 +1,17 @@
 -- `read_model` meets its contract: each way out is a lemma of proofs/Modelled.antt. Assumes nothing.
-use mathlib.Core.Path.{ap}
-use lib.ListN.{length}
+use mathlib.Core.Path.{◌≡◌, refl, ap, ◌∙◌}
+use Prim.Native.Nat.{ℕ}
+use lib.ListN.{length, replicate, length-replicate}
+use Rattle.paper.specs.Basics.{most_names}
 use Rattle.content.proofs.Modelled.{no_front, left_over, whole_model}
-use borrow.Author.Rules.{rules}
 use Rattle.content.proofs.read_model.Goals as goal
+use Rattle.content.proofs.read_model.Goals.{in_default-via-in-Some+else-whole-s, in_default-via-in_default}
 
-pub no_model-requires : goal.no_model-requires
-no_model-requires c = let l = ap length c.requires in search rules
+pub returns-in_default : goal.returns-in_default
+returns-in_default c =
+    let long : length c.read.new.follow ≡ most_names = c.read.auto.follow ∙ ap length c.requires ∙ length-replicate {A = ℕ} most_names 0 in
+    let zeros : c.fill.new.self ≡ replicate most_names 0 = c.fill.ensures.after (λ y e. e) ∙ ap (λ n. replicate n 0) long in
+    elim c.in_default.branch [ in_default-via-in-Some+else-whole-s w ↦ left_over c.read.ensures w.in-Some.is w.if-whole-s.false zeros | in_default-via-in_default w ↦ no_front c.read.ensures w.in_default.is zeros ]
 
-pub returns-then-not-whole : goal.returns-then-not-whole
-returns-then-not-whole c = search no_front
-
-pub no_model-requires-then-whole-s : goal.no_model-requires-then-whole-s
-no_model-requires-then-whole-s c = let l = ap length c.requires in search rules
-
-pub returns-then-whole-s : goal.returns-then-whole-s
-returns-then-whole-s c = search left_over
-
-pub returns : goal.returns
-returns c = search whole_model
+pub returns-in-Some : goal.returns-in-Some
+returns-in-Some c = whole_model c.read.ensures c.in-Some.is c.if-whole-s.true c.requires refl

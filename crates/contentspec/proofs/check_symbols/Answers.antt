@@ -1,16 +1,18 @@
--- `contentspec::check_symbols` meets its contract. The loop's invariant is `Passing`; the measure is how many symbols are left. Assumes nothing.
+-- `contentspec::check_symbols` meets its contract. The loop's invariant is `Passing`. Assumes nothing.
 use borrow.Author.Rules.{rules}
+use Rattle.reading.specs.Ended.{handed}
 use Rattle.contentspec.specs.Symbols.{passed_none, passed_stop, passed_one, passed_all}
 use Rattle.contentspec.proofs.check_symbols.Goals as goal
 
 pub loop-i-init : goal.loop-i-init
 loop-i-init c = search (passed_none, rules)
 
-pub returns-then-s-ne-DONE : goal.returns-then-s-ne-DONE
-returns-then-s-ne-DONE c = search passed_stop
+pub returns-in_err-number_in : goal.returns-in_err-number_in
+returns-in_err-number_in c =
+    rw (handed c.from_residual.ensures.1) (passed_stop _ _ _ _ c.loop-i.invariant c.loop-i-test.true _ c.in_err-number_in.ensures)
 
 pub loop-i-preserved : goal.loop-i-preserved
-loop-i-preserved c = search passed_one
+loop-i-preserved c = search (passed_one, c.in_ok-number_in.ensures)
 
 pub returns : goal.returns
-returns c = search passed_all
+returns c = search (passed_all, rules)

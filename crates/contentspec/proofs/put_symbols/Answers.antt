@@ -5,8 +5,8 @@ use Rattle.contentspec.proofs.put_symbols.Goals as goal
 pub slice_bounds-read_model-end : goal.slice_bounds-read_model-end
 slice_bounds-read_model-end c = search zeros_long
 
-pub returns-then-not-m : goal.returns-then-not-m
-returns-then-not-m c = search model_none
+pub returns-in_default : goal.returns-in_default
+returns-in_default c = search model_none
 
 pub slice_bounds-list_names-end : goal.slice_bounds-list_names-end
 slice_bounds-list_names-end c = search follow_room

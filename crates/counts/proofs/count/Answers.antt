@@ -3,8 +3,8 @@ use Rattle.counts.specs.Whole.{fresh_long, fresh_small, fresh_put}
 use borrow.Author.Rules.{rules}
 use Rattle.counts.proofs.count.Goals as goal
 
-pub put_all-requires : goal.put_all-requires
-put_all-requires c = search (rules, fresh_long, fresh_small)
+pub put-requires : goal.put-requires
+put-requires c = search (rules, fresh_long, fresh_small)
 
 pub returns : goal.returns
 returns c = search fresh_put

@@ -3,8 +3,8 @@ use Rattle.counts.specs.Whole.{none_few, stands_all}
 use borrow.Author.Rules.{rules}
 use Rattle.counts.proofs.read.Goals as goal
 
-pub move_all-requires : goal.move_all-requires
-move_all-requires c = search (rules, none_few)
+pub moved_all-requires : goal.moved_all-requires
+moved_all-requires c = search (rules, none_few)
 
 pub returns : goal.returns
 returns c = search (rules, stands_all)

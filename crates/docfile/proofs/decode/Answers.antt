@@ -5,8 +5,8 @@ use Rattle.docfile.proofs.decode.Goals as goal
 pub loop-at-init : goal.loop-at-init
 loop-at-init c = decode_none _ _ _
 
-pub returns-in-Broken : goal.returns-in-Broken
-returns-in-Broken c = search decode_broken
+pub returns-in_default : goal.returns-in_default
+returns-in_default c = search decode_broken
 
 pub returns-then-held-room : goal.returns-then-held-room
 returns-then-held-room c = search decode_full

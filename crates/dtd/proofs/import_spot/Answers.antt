@@ -25,14 +25,14 @@ pub declared_at-d-requires : goal.declared_at-d-requires
 declared_at-d-requires c =
     record { elements_long = refl; contents_long = refl; ends_long = refl; attributes_long = refl; heads_long = refl; rows_long = refl }
 
-pub returns-then-d-ne0 : goal.returns-then-d-ne0
-returns-then-d-ne0 c =
+pub returns-in-Err : goal.returns-in-Err
+returns-in-Err c =
     let d = c.declared_at-d in
     let a = c.args in
-    not_taken a.text.now d.new.elements d.new.contents d.new.ends d.new.attributes d.new.heads d.new.rows d.result d.ensures c.if-d-ne0.true
+    rw c.number.ensures (not_taken a.text.now d.new.elements d.new.contents d.new.ends d.new.attributes d.new.heads d.new.rows c.in-Err.fault (rw c.in-Err.is at d.ensures))
 
-pub returns : goal.returns
-returns c =
+pub returns-in-Ok : goal.returns-in-Ok
+returns-in-Ok c =
     let d = c.declared_at-d in
     let a = c.args in
-    told a.text.now d.new.elements d.new.contents d.new.ends d.new.attributes d.new.heads d.new.rows d.result d.ensures (record { elements_long = d.auto.elements; contents_long = d.auto.contents; ends_long = d.auto.ends; attributes_long = d.auto.attributes; heads_long = d.auto.heads; rows_long = d.auto.rows }) c.if-d-ne0.false
+    told a.text.now d.new.elements d.new.contents d.new.ends d.new.attributes d.new.heads d.new.rows c.in-Ok.field-0 (rw c.in-Ok.is at d.ensures) (record { elements_long = d.auto.elements; contents_long = d.auto.contents; ends_long = d.auto.ends; attributes_long = d.auto.attributes; heads_long = d.auto.heads; rows_long = d.auto.rows })

@@ -1,5 +1,6 @@
 -- `dtd::names` meets its contract. Assumes nothing.
-use mathlib.Core.Path.{refl}
+use mathlib.Core.Path.{refl, ap, ◌∙◌}
+use Rattle.docfile.specs.Outcome.{answer}
 use Rattle.dtd.specs.Outcomes.{not_named, some_names, named}
 use borrow.Author.Rules.{rules}
 use Rattle.dtd.proofs.names.Goals as goal
@@ -26,21 +27,28 @@ pub declared_at-d-requires : goal.declared_at-d-requires
 declared_at-d-requires c =
     record { elements_long = refl; contents_long = refl; ends_long = refl; attributes_long = refl; heads_long = refl; rows_long = refl }
 
-pub returns-then-d-ne0 : goal.returns-then-d-ne0
-returns-then-d-ne0 c =
+pub returns-in-Err : goal.returns-in-Err
+returns-in-Err c =
     let d = c.declared_at-d in
     let a = c.args in
-    not_named a.text.now d.new.elements d.new.contents d.new.ends d.new.attributes d.new.heads d.new.rows d.result d.ensures a.names.now c.refusal.result c.if-d-ne0.true c.refusal.ensures
+    not_named a.text.now d.new.elements d.new.contents d.new.ends d.new.attributes d.new.heads d.new.rows c.in-Err.fault (rw c.in-Err.is at d.ensures) a.names.now c.refusal.result (c.refusal.ensures ∙ ap (λ k. answer k 0) c.number.ensures)
 
-pub put_words-requires : goal.put_words-requires
-put_words-requires c =
+pub slice_bounds-first-end : goal.slice_bounds-first-end
+slice_bounds-first-end c =
     let d = c.declared_at-d in
     let a = c.args in
-    let k = some_names a.text.now d.new.elements d.new.contents d.new.ends d.new.attributes d.new.heads d.new.rows d.result d.ensures (record { elements_long = d.auto.elements; contents_long = d.auto.contents; ends_long = d.auto.ends; attributes_long = d.auto.attributes; heads_long = d.auto.heads; rows_long = d.auto.rows }) c.if-d-ne0.false in
+    let k = some_names a.text.now d.new.elements d.new.contents d.new.ends d.new.attributes d.new.heads d.new.rows c.in-Ok.d (rw c.in-Ok.is at d.ensures) (record { elements_long = d.auto.elements; contents_long = d.auto.contents; ends_long = d.auto.ends; attributes_long = d.auto.attributes; heads_long = d.auto.heads; rows_long = d.auto.rows }) in
     search (rules, k)
 
-pub returns : goal.returns
-returns c =
+pub slice_bounds-second-end : goal.slice_bounds-second-end
+slice_bounds-second-end c =
     let d = c.declared_at-d in
     let a = c.args in
-    named a.text.now d.new.elements d.new.contents d.new.ends d.new.attributes d.new.heads d.new.rows d.result d.ensures (record { elements_long = d.auto.elements; contents_long = d.auto.contents; ends_long = d.auto.ends; attributes_long = d.auto.attributes; heads_long = d.auto.heads; rows_long = d.auto.rows }) c.if-d-ne0.false a.names.now c.put_words.new.names c.put_words.result c.put_words.ensures
+    let k = some_names a.text.now d.new.elements d.new.contents d.new.ends d.new.attributes d.new.heads d.new.rows c.in-Ok.d (rw c.in-Ok.is at d.ensures) (record { elements_long = d.auto.elements; contents_long = d.auto.contents; ends_long = d.auto.ends; attributes_long = d.auto.attributes; heads_long = d.auto.heads; rows_long = d.auto.rows }) in
+    search (rules, k)
+
+pub returns-in-Ok : goal.returns-in-Ok
+returns-in-Ok c =
+    let d = c.declared_at-d in
+    let a = c.args in
+    named a.text.now d.new.elements d.new.contents d.new.ends d.new.attributes d.new.heads d.new.rows c.in-Ok.d (rw c.in-Ok.is at d.ensures) (record { elements_long = d.auto.elements; contents_long = d.auto.contents; ends_long = d.auto.ends; attributes_long = d.auto.attributes; heads_long = d.auto.heads; rows_long = d.auto.rows }) a.names.now c.put_words.new.names c.put_words.result c.put_words.ensures

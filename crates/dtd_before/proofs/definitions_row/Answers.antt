@@ -1,7 +1,6 @@
 -- `dtd_before::definitions_row` meets its contract: the definitions go on at i. Assumes nothing.
 use Prim.Native.Nat.{◌-◌}
-use Rattle.dtd_kinds.specs.Kinds.{kind_inside}
-use Rattle.dtd_before.specs.Listing.{listing_begun, listing_ended, number_small, listing_less, listing_more}
+use Rattle.dtd_before.specs.Listing.{kind_within, listing_begun, listing_ended, kind_ok, status_ok, number_small, listing_less, listing_more}
 use borrow.Author.Rules.{rules}
 use Rattle.dtd_before.proofs.definitions_row.Goals as goal
 
@@ -11,8 +10,14 @@ loop-row-init c = search (rules, listing_begun)
 pub returns-then-byte_at : goal.returns-then-byte_at
 returns-then-byte_at c = search (rules, listing_ended)
 
-pub status_behind-s-requires : goal.status_behind-s-requires
-status_behind-s-requires c = search (rules, kind_inside)
+pub unwrap-k-requires : goal.unwrap-k-requires
+unwrap-k-requires c = search (rules, kind_ok)
+
+pub status_behind-requires : goal.status_behind-requires
+status_behind-requires c = search (rules, kind_within)
+
+pub unwrap-s-requires : goal.unwrap-s-requires
+unwrap-s-requires c = search (rules, status_ok)
 
 pub with_definition-row-requires : goal.with_definition-row-requires
 with_definition-row-requires c = search (rules, number_small)

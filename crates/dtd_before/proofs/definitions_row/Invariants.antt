@@ -6,7 +6,7 @@ use Rattle.dtd_before.specs.Listing.{Listing}
 use Rattle.dtd_before.proofs.definitions_row.Given as goal
 
 abbrev pub invariant-loop-row : goal.invariant-loop-row
-invariant-loop-row l = Ready l.text l.upto l.attributes l.count × Listing l.text l.upto l.e l.at l.i l.row
+invariant-loop-row l = Ready l.text l.upto l.attributes × Listing l.text l.upto l.e l.at l.i l.row
 
 abbrev pub decreases-loop-row : goal.decreases-loop-row
 decreases-loop-row l = length l.text - l.i

@@ -1,7 +1,6 @@
 -- `dtd_before::row_before` meets its contract: the text is left from i on. Assumes nothing.
-use Rattle.dtd_kinds.specs.Kinds.{came_inside}
 use Prim.Native.Nat.{◌-◌}
-use Rattle.dtd_before.specs.Scans.{scan_begun, scan_ended, white_scan, white_less, front_inside, note_scan, note_less, element_scan, declared_less, attlist_inside, attlist_due, attlist_scan}
+use Rattle.dtd_before.specs.Scans.{scan_begun, scan_ended, white_scan, white_less, front_inside, note_ok, note_inside, note_scan, note_less, element_scan, declared_less, attlist_inside, attlist_due, attlist_scan}
 use borrow.Author.Rules.{rules}
 use Rattle.dtd_before.proofs.row_before.Goals as goal
 
@@ -20,14 +19,17 @@ overflow_add-i c = search (rules, front_inside)
 pub overflow_add-i-then-byte_at : goal.overflow_add-i-then-byte_at
 overflow_add-i-then-byte_at c = search (rules, front_inside)
 
-pub comment_end-i-requires : goal.comment_end-i-requires
-comment_end-i-requires c = search (rules, front_inside)
+pub comment_end-requires : goal.comment_end-requires
+comment_end-requires c = search (rules, front_inside)
+
+pub unwrap-i-requires : goal.unwrap-i-requires
+unwrap-i-requires c = search (rules, note_ok)
 
 pub loop-i-smaller-then-byte_at : goal.loop-i-smaller-then-byte_at
 loop-i-smaller-then-byte_at c = search (rules, note_less)
 
 pub loop-i-preserved-then-byte_at : goal.loop-i-preserved-then-byte_at
-loop-i-preserved-then-byte_at c = search (rules, note_scan, came_inside)
+loop-i-preserved-then-byte_at c = search (rules, note_scan, note_inside)
 
 pub overflow_add-i-in-loop-i : goal.overflow_add-i-in-loop-i
 overflow_add-i-in-loop-i c = search (rules, front_inside)

@@ -5,7 +5,7 @@ use Rattle.dtd_before.specs.Scans.{Ready, Scan}
 use Rattle.dtd_before.proofs.row_before.Given as goal
 
 abbrev pub invariant-loop-i : goal.invariant-loop-i
-invariant-loop-i l = Ready l.text l.upto l.attributes l.count × (l.i ≤ length l.text) × Scan l.text l.upto l.e (drop l.i l.text) l.row
+invariant-loop-i l = Ready l.text l.upto l.attributes × (l.i ≤ length l.text) × Scan l.text l.upto l.e (drop l.i l.text) l.row
 
 abbrev pub decreases-loop-i : goal.decreases-loop-i
 decreases-loop-i l = length l.text - l.i

@@ -1,38 +1,47 @@
 -- `dtd_comments::comment_end` meets its contract: the comment goes on at i. Assumes nothing.
-use Prim.Native.Nat.{◌-◌}
 use borrow.Author.Rules.{rules}
-use Rattle.dtd_comments.specs.Comments.{begun, behind_inside, ends, next, next_less, broken, next_behind, next_behind_less, broken_behind}
+use Rattle.std.proofs.Common.{◌≡◌, sym, ◌∙◌, true, false, true≢false, Err, ◌+◌, eqb, drop}
+use Rattle.paper.specs.Dtd.Letters.{begins, hyphen}
+use Rattle.dtd_comments.specs.Comments.{ends, next, next_less, broken}
 use Rattle.dtd_comments.proofs.comment_end.Goals as goal
+use Rattle.dtd_comments.proofs.comment_end.Goals.{else-hyphen-via-then-hyphen+else-byte_at, else-hyphen-via-else-hyphen}
 
-pub loop-j-init : goal.loop-j-init
-loop-j-init c = search (rules, begun)
+pub returns-then-byte_at : goal.returns-then-byte_at
+returns-then-byte_at c = search (rules, ends)
 
-pub overflow_add-j : goal.overflow_add-j
-overflow_add-j c = search (rules, behind_inside)
+pub returns-in_err-i : goal.returns-in_err-i
+returns-in_err-i c =
+    let text = c.args.text.now in
+    let i = c.loop-at.i in
+    let b = c.byte_at-hyphen.result in
+    let one : b ≡ true → begins (eqb hyphen) (drop (i + 1) text) ≡ false =
+    elim c.else-hyphen.branch [
+      | else-hyphen-via-then-hyphen+else-byte_at w ↦ λ p. sym w.byte_at.ensures ∙ w.if-byte_at.false
+      | else-hyphen-via-else-hyphen w ↦ λ p. absurd (true≢false (sym p ∙ w.if-hyphen.false))
+    ] in
+    let e : c.from_residual.result ≡ Err c.in_err-i.field-0.0 = search rules in
+    rw e (broken text c.args.at i c.loop-at.invariant b c.byte_at-hyphen.ensures one c.in_err-i.field-0.0 c.in_err-i.ensures)
 
-pub word_at-requires : goal.word_at-requires
-word_at-requires c = search (rules, behind_inside)
+pub loop-at-smaller : goal.loop-at-smaller
+loop-at-smaller c =
+    let text = c.args.text.now in
+    let i = c.loop-at.i in
+    let b = c.byte_at-hyphen.result in
+    let one : b ≡ true → begins (eqb hyphen) (drop (i + 1) text) ≡ false =
+    elim c.else-hyphen.branch [
+      | else-hyphen-via-then-hyphen+else-byte_at w ↦ λ p. sym w.byte_at.ensures ∙ w.if-byte_at.false
+      | else-hyphen-via-else-hyphen w ↦ λ p. absurd (true≢false (sym p ∙ w.if-hyphen.false))
+    ] in
+    next_less text c.args.at i c.loop-at.invariant b c.byte_at-hyphen.ensures one c.in_ok-i.i c.in_ok-i.ensures
 
-pub returns-then-hyphen_at-2 : goal.returns-then-hyphen_at-2
-returns-then-hyphen_at-2 c = search (rules, ends)
-
-pub char_at-c-requires : goal.char_at-c-requires
-char_at-c-requires c = search (rules, behind_inside)
-
-pub returns-then-c-ne0 : goal.returns-then-c-ne0
-returns-then-c-ne0 c = search (rules, broken_behind)
-
-pub loop-j-smaller-then-hyphen_at : goal.loop-j-smaller-then-hyphen_at
-loop-j-smaller-then-hyphen_at c = search (rules, next_behind_less)
-
-pub loop-j-preserved-then-hyphen_at : goal.loop-j-preserved-then-hyphen_at
-loop-j-preserved-then-hyphen_at c = search (rules, next_behind)
-
-pub returns-then-c-ne0-2 : goal.returns-then-c-ne0-2
-returns-then-c-ne0-2 c = search (rules, broken)
-
-pub loop-j-smaller : goal.loop-j-smaller
-loop-j-smaller c = search (rules, next_less)
-
-pub loop-j-preserved : goal.loop-j-preserved
-loop-j-preserved c = search (rules, next)
+pub loop-at-preserved : goal.loop-at-preserved
+loop-at-preserved c =
+    let text = c.args.text.now in
+    let i = c.loop-at.i in
+    let b = c.byte_at-hyphen.result in
+    let one : b ≡ true → begins (eqb hyphen) (drop (i + 1) text) ≡ false =
+    elim c.else-hyphen.branch [
+      | else-hyphen-via-then-hyphen+else-byte_at w ↦ λ p. sym w.byte_at.ensures ∙ w.if-byte_at.false
+      | else-hyphen-via-else-hyphen w ↦ λ p. absurd (true≢false (sym p ∙ w.if-hyphen.false))
+    ] in
+    next text c.args.at i c.loop-at.invariant b c.byte_at-hyphen.ensures one c.in_ok-i.i c.in_ok-i.ensures

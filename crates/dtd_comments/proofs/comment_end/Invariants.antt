@@ -4,8 +4,8 @@ use lib.ListN.{length}
 use Rattle.dtd_comments.specs.Comments.{Going}
 use Rattle.dtd_comments.proofs.comment_end.Given as goal
 
-abbrev pub invariant-loop-j : goal.invariant-loop-j
-invariant-loop-j l = Going l.text l.at l.i
+abbrev pub invariant-loop-at : goal.invariant-loop-at
+invariant-loop-at l = Going l.text l.at l.i
 
-abbrev pub decreases-loop-j : goal.decreases-loop-j
-decreases-loop-j l = length l.text - l.i
+abbrev pub decreases-loop-at : goal.decreases-loop-at
+decreases-loop-at l = length l.text - l.i

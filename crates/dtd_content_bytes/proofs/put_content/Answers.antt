@@ -9,11 +9,11 @@ pub bounds-out-at : goal.bounds-out-at
 bounds-out-at c = search (rules, some_room)
 
 pub returns-then-kind-ne-MODEL : goal.returns-then-kind-ne-MODEL
-returns-then-kind-ne-MODEL c = content_alone _ _ _ _ _ _ _ c.requires _ c.kind_at-kind.ensures c.if-kind-ne-MODEL.true
+returns-then-kind-ne-MODEL c = content_alone _ _ _ _ _ _ c.requires _ c.kind_at-kind.ensures c.if-kind-ne-MODEL.true
 
 pub put_model-requires : goal.put_model-requires
-put_model-requires c = model_ready _ _ _ _ _ _ _ c.requires _ c.kind_at-kind.ensures c.if-kind-ne-MODEL.false
+put_model-requires c = model_ready _ _ _ _ _ _ c.requires _ c.kind_at-kind.ensures c.if-kind-ne-MODEL.false
 
 pub returns : goal.returns
 returns c =
-    content_model _ _ _ _ _ _ _ c.requires _ c.kind_at-kind.ensures c.if-kind-ne-MODEL.false _ _ c.put_model.ensures
+    content_model _ _ _ _ _ _ c.requires _ c.kind_at-kind.ensures c.if-kind-ne-MODEL.false _ _ c.put_model.ensures

@@ -1,37 +1,48 @@
 -- `dtd_declared::declared_at` meets its contract: read twice. Assumes nothing.
-use mathlib.Core.Path.{refl, ◌∙◌}
-use Rattle.dtd_declared.specs.Twice.{stopped, fit, none, undeclared, taken}
+use borrow.Author.Rules.{rules}
+use native.Mathlib.Omega.{arith}
+use Prim.Native.Nat.{◌≤◌}
+use lib.ListN.{length}
+use Rattle.std.proofs.Common.{◌≡◌, Err}
+use Rattle.paper.specs.Basics.{most_elements}
+use Rattle.dtd_declared.specs.Twice.{stopped, few, none, undeclared, taken}
 use Rattle.dtd_declared.proofs.declared_at.Goals as goal
 
-pub slice_bounds-read_text-end : goal.slice_bounds-read_text-end
-slice_bounds-read_text-end c = refl
-
-pub returns-then-first-ne0 : goal.returns-then-first-ne0
-returns-then-first-ne0 c =
-    let t = c.read_text-first in
+pub returns-in_err-first : goal.returns-in_err-first
+returns-in_err-first c =
+    let t = c.read_text in
     let a = c.args in
-    stopped a.text.now t.new.elements t.new.contents t.new.ends t.new.attributes t.new.heads t.new.rows t.result t.ensures c.if-first-ne0.true
+    let e : c.from_residual.result ≡ Err c.in_err-first.field-0.0 = search rules in
+    rw e (stopped a.text.now t.new.elements t.new.contents t.new.ends t.new.attributes t.new.heads t.new.rows c.in_err-first.field-0.0 c.in_err-first.ensures)
 
 pub returns-then-first-eq0 : goal.returns-then-first-eq0
 returns-then-first-eq0 c =
-    let t = c.read_text-first in
+    let t = c.read_text in
     let a = c.args in
-    none a.text.now t.new.elements t.new.contents t.new.ends t.new.attributes t.new.heads t.new.rows t.result t.ensures c.if-first-ne0.false c.if-first-eq0.true c.refused_at.result c.refused_at.ensures
+    none a.text.now t.new.elements t.new.contents t.new.ends t.new.attributes t.new.heads t.new.rows c.in_ok-first.first c.in_ok-first.ensures c.if-first-eq0.true
 
-pub strictly-again-requires : goal.strictly-again-requires
-strictly-again-requires c =
-    let t = c.read_text-first in
+pub slice_bounds-strictly-end : goal.slice_bounds-strictly-end
+slice_bounds-strictly-end c =
+    let t = c.read_text in
     let a = c.args in
-    fit a.text.now t.new.elements t.new.contents t.new.ends t.new.attributes t.new.heads t.new.rows t.result t.ensures c.if-first-ne0.false (t.auto.elements ∙ c.requires.elements_long)
+    let k : c.in_ok-first.first.elements ≤ most_elements = few a.text.now t.new.elements t.new.contents t.new.ends t.new.attributes t.new.heads t.new.rows c.in_ok-first.first c.in_ok-first.ensures in
+    let l = c.requires in
+    let m = t.auto in
+    omega arith
 
-pub returns-then-again-ne0 : goal.returns-then-again-ne0
-returns-then-again-ne0 c =
-    let t = c.read_text-first in
+pub returns-in_err-strictly : goal.returns-in_err-strictly
+returns-in_err-strictly c =
+    let t = c.read_text in
     let a = c.args in
-    undeclared a.text.now t.new.elements t.new.contents t.new.ends t.new.attributes t.new.heads t.new.rows t.result t.ensures c.if-first-ne0.false c.if-first-eq0.false (fit a.text.now t.new.elements t.new.contents t.new.ends t.new.attributes t.new.heads t.new.rows t.result t.ensures c.if-first-ne0.false (t.auto.elements ∙ c.requires.elements_long)) c.strictly-again.result c.strictly-again.ensures c.if-again-ne0.true c.refused_at-then-again-ne0.result c.refused_at-then-again-ne0.ensures
+    let k : c.in_ok-first.first.elements ≤ most_elements = few a.text.now t.new.elements t.new.contents t.new.ends t.new.attributes t.new.heads t.new.rows c.in_ok-first.first c.in_ok-first.ensures in
+    let m : c.in_ok-first.first.elements ≤ length t.new.elements = omega (arith, t.auto.elements, c.requires.elements_long) in
+    let e : c.from_residual-in_err-strictly.result ≡ Err c.in_err-strictly.field-0.0 = search rules in
+    rw e (undeclared a.text.now t.new.elements t.new.contents t.new.ends t.new.attributes t.new.heads t.new.rows c.in_ok-first.first c.in_ok-first.ensures c.if-first-eq0.false m c.in_err-strictly.field-0.0 c.in_err-strictly.ensures)
 
 pub returns : goal.returns
 returns c =
-    let t = c.read_text-first in
+    let t = c.read_text in
     let a = c.args in
-    taken a.text.now t.new.elements t.new.contents t.new.ends t.new.attributes t.new.heads t.new.rows t.result t.ensures c.if-first-ne0.false c.if-first-eq0.false (fit a.text.now t.new.elements t.new.contents t.new.ends t.new.attributes t.new.heads t.new.rows t.result t.ensures c.if-first-ne0.false (t.auto.elements ∙ c.requires.elements_long)) c.strictly-again.result c.strictly-again.ensures c.if-again-ne0.false
+    let k : c.in_ok-first.first.elements ≤ most_elements = few a.text.now t.new.elements t.new.contents t.new.ends t.new.attributes t.new.heads t.new.rows c.in_ok-first.first c.in_ok-first.ensures in
+    let m : c.in_ok-first.first.elements ≤ length t.new.elements = omega (arith, t.auto.elements, c.requires.elements_long) in
+    taken a.text.now t.new.elements t.new.contents t.new.ends t.new.attributes t.new.heads t.new.rows c.in_ok-first.first c.in_ok-first.ensures c.if-first-eq0.false m _ c.in_ok-strictly.ensures

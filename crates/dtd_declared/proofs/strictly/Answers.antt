@@ -1,9 +1,9 @@
 -- `dtd_declared::strictly` meets its contract. Assumes nothing.
 use mathlib.Core.Path.{refl}
-use lib.ListN.{take}
-use Rattle.dtd_names.specs.Named.{names_at, known_by}
-use mathlib.Core.Bool.{true}
-use Rattle.dtd_declared.specs.Twice.{came}
+use borrow.Author.Rules.{rules}
+use Rattle.std.proofs.Common.{◌≡◌, Err, Some}
+use Rattle.dtd_names.specs.Named.{known_in}
+use Rattle.dtd_declared.specs.Twice.{came, failed}
 use Rattle.dtd_declared.proofs.strictly.Goals as goal
 
 pub slice_bounds-read_text-end : goal.slice_bounds-read_text-end
@@ -24,12 +24,19 @@ slice_bounds-read_text-end-5 c = refl
 pub slice_bounds-read_text-end-6 : goal.slice_bounds-read_text-end-6
 slice_bounds-read_text-end-6 c = refl
 
-pub read_text-r-requires : goal.read_text-r-requires
-read_text-r-requires c =
-    record { lists = record { elements_long = refl; contents_long = refl; ends_long = refl; attributes_long = refl; heads_long = refl; rows_long = refl }; total_in_bounds = c.requires }
+pub read_text-requires : goal.read_text-requires
+read_text-requires c =
+    record { elements_long = refl; contents_long = refl; ends_long = refl; attributes_long = refl; heads_long = refl; rows_long = refl }
+
+pub returns-in_err-r : goal.returns-in_err-r
+returns-in_err-r c =
+    let t = c.read_text in
+    let a = c.args in
+    let e : c.from_residual.result ≡ Err c.in_err-r.field-0.0 = search rules in
+    rw e (failed (known_in a.text.now (Some a.elements.now)) a.text.now c.in_err-r.field-0.0 t.new.elements t.new.contents t.new.ends t.new.attributes t.new.heads t.new.rows c.in_err-r.ensures)
 
 pub returns : goal.returns
 returns c =
-    let t = c.read_text-r in
+    let t = c.read_text in
     let a = c.args in
-    came (known_by true (names_at a.text.now (take a.count a.elements.now))) a.text.now t.result t.new.elements t.new.contents t.new.ends t.new.attributes t.new.heads t.new.rows t.ensures
+    came (known_in a.text.now (Some a.elements.now)) a.text.now c.in_ok-r.r t.new.elements t.new.contents t.new.ends t.new.attributes t.new.heads t.new.rows c.in_ok-r.ensures

@@ -1,20 +1,19 @@
--- `dtd_elements::head_at` meets its contract: a step after another. Assumes nothing.
-use Rattle.dtd_elements.specs.Heads.{no_start, there, no_new, new_inside, headed}
+-- `dtd_elements::head_at` meets its contract: a keyword, a name, white space. Assumes nothing.
+use Rattle.std.proofs.Common.{◌≡◌, Err}
+use Rattle.dtd_elements.specs.Heads.{no_start, new_inside, no_gap}
 use borrow.Author.Rules.{rules}
 use Rattle.dtd_elements.proofs.head_at.Goals as goal
 
-pub returns-then-s-ne0 : goal.returns-then-s-ne0
-returns-then-s-ne0 c = search (rules, no_start)
+pub returns-in_err-name : goal.returns-in_err-name
+returns-in_err-name c =
+    let e : c.from_residual.result ≡ Err c.in_err-name.field-0.0 = search rules in
+    rw e (no_start c.args.text.now c.args.at c.args.elements.now c.requires c.in_err-name.field-0.0 c.in_err-name.ensures)
 
-pub new_element-n-requires : goal.new_element-n-requires
-new_element-n-requires c = search (rules, there)
+pub white_at-requires : goal.white_at-requires
+white_at-requires c =
+    new_inside c.args.text.now c.args.at c.args.elements.now c.requires c.in_ok-name.name c.in_ok-name.ensures c.in_ok-end.end c.in_ok-end.ensures
 
-pub returns-then-n-ne0 : goal.returns-then-n-ne0
-returns-then-n-ne0 c = search (rules, no_new)
-
-pub white_at-t-requires : goal.white_at-t-requires
-white_at-t-requires c = search (rules, new_inside)
-
-pub returns : goal.returns
-returns c =
-    headed c.args.text.now c.args.at c.args.elements.now c.args.count c.requires c.keyword_at-s.result c.keyword_at-s.ensures c.if-s-ne0.false c.new_element-n.result c.new_element-n.ensures c.if-n-ne0.false c.white_at-t.result c.white_at-t.ensures
+pub returns-in_err-behind : goal.returns-in_err-behind
+returns-in_err-behind c =
+    let e : c.from_residual-in_err-behind.result ≡ Err c.in_err-behind.field-0.0 = search rules in
+    rw e (no_gap c.args.text.now c.args.at c.args.elements.now c.requires c.in_ok-name.name c.in_ok-name.ensures c.in_ok-end.end c.in_ok-end.ensures c.in_err-behind.field-0.0 c.in_err-behind.ensures)

@@ -1,16 +1,16 @@
--- `dtd_elements::new_element` meets its contract. Assumes nothing.
-use Rattle.dtd_elements.specs.Heads.{no_name, twice, full, fresh}
+-- `dtd_elements::new_element` meets its contract: a new name, and room for it. Assumes nothing.
+use Rattle.dtd_elements.specs.Heads.{twice, full, fresh}
 use borrow.Author.Rules.{rules}
 use Rattle.dtd_elements.proofs.new_element.Goals as goal
 
-pub returns-then-n-ne0 : goal.returns-then-n-ne0
-returns-then-n-ne0 c = search (rules, no_name)
+pub returns-then-find_name-elements : goal.returns-then-find_name-elements
+returns-then-find_name-elements c =
+    twice c.args.text.now c.args.at c.args.elements.now c.requires c.in_ok-end.end c.in_ok-end.ensures c.find_name.result c.find_name.ensures (search rules)
 
-pub returns-then-find_name-count : goal.returns-then-find_name-count
-returns-then-find_name-count c = search (rules, twice)
-
-pub returns-then-count-eq-MOST_ELEMENTS : goal.returns-then-count-eq-MOST_ELEMENTS
-returns-then-count-eq-MOST_ELEMENTS c = search (rules, full)
+pub returns-then-elements-eq-MOST_ELEMENTS : goal.returns-then-elements-eq-MOST_ELEMENTS
+returns-then-elements-eq-MOST_ELEMENTS c =
+    full c.args.text.now c.args.at c.args.elements.now c.requires c.in_ok-end.end c.in_ok-end.ensures c.find_name.result c.find_name.ensures (search rules) (search rules)
 
 pub returns : goal.returns
-returns c = search (rules, fresh)
+returns c =
+    fresh c.args.text.now c.args.at c.args.elements.now c.requires c.in_ok-end.end c.in_ok-end.ensures c.find_name.result c.find_name.ensures (search rules) (search rules)

@@ -12,7 +12,7 @@ put_element-next-requires c = search (rules, ready)
 
 pub loop-j-preserved : goal.loop-j-preserved
 loop-j-preserved c =
-    again _ _ _ _ _ _ _ _ _ _ c.loop-j.invariant c.loop-j-test.true _ c.row_at-row.ensures _ _ c.put_element-next.ensures
+    again _ _ _ _ _ _ _ _ _ c.loop-j.invariant c.loop-j-test.true _ c.row_at-row.ensures _ _ c.put_element-next.ensures
 
 pub returns : goal.returns
 returns c = search (rules, all)

@@ -1,10 +1,6 @@
 -- `dtd_file::put_elements` meets its contract: what is left to put is the elements from the j-th on. Assumes nothing.
-use Prim.Native.Nat.{◌-◌}
 use Rattle.dtd_file.specs.Turns.{Going}
 use Rattle.dtd_file.proofs.put_elements.Given as goal
 
 abbrev pub invariant-loop-j : goal.invariant-loop-j
-invariant-loop-j l = Going l.text l.elements l.contents l.ends l.count l.rows l.initial.out l.j l.next l.out
-
-abbrev pub decreases-loop-j : goal.decreases-loop-j
-decreases-loop-j l = l.count - l.j
+invariant-loop-j l = Going l.text l.elements l.contents l.ends l.rows l.initial.out l.j l.next l.out

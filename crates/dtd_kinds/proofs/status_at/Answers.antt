@@ -1,19 +1,15 @@
--- `dtd_kinds::status_at` meets its contract: a status, by the byte behind the hash. Assumes nothing.
+-- `dtd_kinds::status_at` meets its contract: a status that is refused behind the hash. Assumes nothing.
 use borrow.Author.Rules.{rules}
-use Rattle.dtd_kinds.specs.Kinds.{status_failed, status_implied, status_required, came_inside}
+use Rattle.std.proofs.Common.{◌≡◌, Err}
+use Rattle.dtd_kinds.specs.Kinds.{not_required, not_implied}
 use Rattle.dtd_kinds.proofs.status_at.Goals as goal
 
-pub returns-then-s-ne0 : goal.returns-then-s-ne0
-returns-then-s-ne0 c = search (rules, status_failed)
+pub returns-in_err-end-2 : goal.returns-in_err-end-2
+returns-in_err-end-2 c =
+    let e : c.from_residual-in_err-end-2.result ≡ Err c.in_err-end-2.field-0.0 = search rules in
+    rw e (search (rules, not_required, c.in_ok-end.ensures, c.in_err-end-2.ensures))
 
-pub word_at-e-requires : goal.word_at-e-requires
-word_at-e-requires c = search (rules, came_inside)
-
-pub returns-then-byte_at : goal.returns-then-byte_at
-returns-then-byte_at c = search (rules, status_required)
-
-pub word_at-e-requires-2 : goal.word_at-e-requires-2
-word_at-e-requires-2 c = search (rules, came_inside)
-
-pub returns : goal.returns
-returns c = search (rules, status_implied)
+pub returns-in_err-end-3 : goal.returns-in_err-end-3
+returns-in_err-end-3 c =
+    let e : c.from_residual-in_err-end-3.result ≡ Err c.in_err-end-3.field-0.0 = search rules in
+    rw e (search (rules, not_implied, c.in_ok-end.ensures, c.in_err-end-3.ensures))

@@ -1,10 +1,6 @@
--- `dtd_list::put_list` meets its contract: what is left to put is the list from the j-th name on. Assumes nothing.
-use Prim.Native.Nat.{◌-◌}
+-- `dtd_list::put_list` meets its contract: what is left to put is the list from the next name on. Assumes nothing.
 use Rattle.dtd_list.specs.Puts.{Listing}
 use Rattle.dtd_list.proofs.put_list.Given as goal
 
-abbrev pub invariant-loop-j : goal.invariant-loop-j
-invariant-loop-j l = Listing l.text l.names l.count l.initial.out l.to l.j l.k l.out
-
-abbrev pub decreases-loop-j : goal.decreases-loop-j
-decreases-loop-j l = l.count - l.j
+abbrev pub invariant-loop-name : goal.invariant-loop-name
+invariant-loop-name l = Listing l.text l.names l.initial.out l.to l.name-index l.k l.out

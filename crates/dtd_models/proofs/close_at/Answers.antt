@@ -1,11 +1,7 @@
 -- `dtd_models::close_at` meets its contract: the last bracket, or another. Assumes nothing.
-use Rattle.dtd_models.specs.Bytes.{closes_inside}
 use Rattle.dtd_models.specs.BehindTurns.{closed_last, closed_more}
 use borrow.Author.Rules.{rules}
 use Rattle.dtd_models.proofs.close_at.Goals as goal
-
-pub suffix_at-s-requires : goal.suffix_at-s-requires
-suffix_at-s-requires c = search (rules, closes_inside)
 
 pub returns-then-p-eq1 : goal.returns-then-p-eq1
 returns-then-p-eq1 c = search (rules, closed_last)

@@ -1,20 +1,24 @@
 -- `dtd_models::part_at` meets its contract: a bracket that opens, or a name. Assumes nothing.
-use Rattle.dtd_models.specs.Bytes.{opens_inside, came_inside}
+use Rattle.std.proofs.Common.{◌≡◌, Err, option_copied, drop}
+use Rattle.paper.specs.Dtd.Reading.{mention}
+use Rattle.dtd_words.specs.Words.{came_inside}
+use Rattle.dtd_names.specs.Named.{known_in}
 use Rattle.dtd_models.specs.PartTurns.{bracket, a_word, no_word}
 use borrow.Author.Rules.{rules}
 use Rattle.dtd_models.proofs.part_at.Goals as goal
 
-pub skip_white-next-requires : goal.skip_white-next-requires
-skip_white-next-requires c = search (rules, opens_inside)
+pub returns-then-byte_at : goal.returns-then-byte_at
+returns-then-byte_at c = search (rules, bracket)
 
-pub returns-then-byte_at-eq40 : goal.returns-then-byte_at-eq40
-returns-then-byte_at-eq40 c = search (rules, bracket)
+pub returns-in_err-end : goal.returns-in_err-end
+returns-in_err-end c =
+    let e : c.from_residual.result ≡ Err c.in_err-end.field-0.0 = search rules in
+    rw e (no_word (known_in c.args.text.now (option_copied c.args.known)) c.args.text.now c.args.from c.args.p c.requires c.byte_at.result c.byte_at.ensures c.if-byte_at.false c.in_err-end.field-0.0 c.in_err-end.ensures)
 
-pub suffix_at-s-requires : goal.suffix_at-s-requires
-suffix_at-s-requires c = search (rules, came_inside)
-
-pub returns-then-n-eq0 : goal.returns-then-n-eq0
-returns-then-n-eq0 c = search (rules, a_word)
+pub suffix_at-marks-requires : goal.suffix_at-marks-requires
+suffix_at-marks-requires c =
+    came_inside c.args.text.now c.in_ok-end.end (mention (known_in c.args.text.now (option_copied c.args.known)) (drop c.args.p.at c.args.text.now)) c.in_ok-end.ensures
 
 pub returns : goal.returns
-returns c = search (rules, no_word)
+returns c =
+    a_word (known_in c.args.text.now (option_copied c.args.known)) c.args.text.now c.args.from c.args.p c.requires c.byte_at.result c.byte_at.ensures c.if-byte_at.false c.in_ok-end.end c.suffix_at-marks.result c.in_ok-end.ensures c.suffix_at-marks.ensures

@@ -1,13 +1,12 @@
 -- `dtd_models::suffix_at` meets its contract: a suffix, or none. Assumes nothing.
-use Rattle.dtd_models.specs.Bytes.{suffix_end, suffix_none, suffix_one}
-use borrow.Author.Rules.{rules}
+use native.Mathlib.Omega.{arith}
+use Rattle.std.proofs.Common.{◌≡◌, drop}
+use Rattle.std.proofs.lemmas.Grind.{common_steps}
+use Rattle.paper.specs.Dtd.Letters.{begins}
+use Rattle.dtd_models.specs.Bytes.{is_suffix, suffix_there}
 use Rattle.dtd_models.proofs.suffix_at.Goals as goal
 
-pub returns-then-text-at : goal.returns-then-text-at
-returns-then-text-at c = search (rules, suffix_end)
-
-pub returns-then-is_suffix : goal.returns-then-is_suffix
-returns-then-is_suffix c = search (rules, suffix_one)
-
-pub returns-else-is_suffix : goal.returns-else-is_suffix
-returns-else-is_suffix c = search (rules, suffix_none)
+pub returns : goal.returns
+returns c =
+    let q : c.is_some_and.result ≡ begins is_suffix (drop c.args.at c.args.text.now) = grind (arith, common_steps) in
+    suffix_there c.args.text.now c.args.at c.requires c.is_some_and.result q

@@ -3,14 +3,14 @@ use borrow.Author.Rules.{rules}
 use Rattle.dtd_owed.specs.Held.{begin, none, other, more}
 use Rattle.dtd_owed.proofs.settle.Goals as goal
 
-pub loop-owed-init : goal.loop-owed-init
-loop-owed-init c = search (rules, begin)
+pub loop-top-init : goal.loop-top-init
+loop-top-init c = search (rules, begin)
 
 pub returns-then-depths-top : goal.returns-then-depths-top
 returns-then-depths-top c = search (rules, other)
 
-pub loop-owed-preserved : goal.loop-owed-preserved
-loop-owed-preserved c = search (rules, more)
+pub loop-top-preserved : goal.loop-top-preserved
+loop-top-preserved c = search (rules, more)
 
 pub returns : goal.returns
 returns c = search (rules, none)

@@ -2,8 +2,5 @@
 use Rattle.dtd_row_bytes.specs.Turns.{Walking}
 use Rattle.dtd_row_bytes.proofs.put_attributes.Given as goal
 
-abbrev pub invariant-loop-rest : goal.invariant-loop-rest
-invariant-loop-rest l = Walking l.row l.initial.out l.at l.next l.rest l.out
-
-abbrev pub decreases-loop-rest : goal.decreases-loop-rest
-decreases-loop-rest l = l.rest
+abbrev pub invariant-loop-k : goal.invariant-loop-k
+invariant-loop-k l = Walking l.row l.initial.out l.at l.next l.k-iterator.0 l.out

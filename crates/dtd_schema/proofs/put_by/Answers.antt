@@ -1,8 +1,22 @@
 -- `dtd_schema::put_by` meets its contract: rows, bytes, and the copy. Assumes nothing.
 use native.Mathlib.Omega.{arith}
-use Rattle.dtd_schema.specs.Schema.{rows_asked, files, fits, in_bytes, schema_no_room, schema_done}
+use Prim.Native.Nat.{◌≤◌}
+use lib.ListN.{length}
+use Rattle.dtd_schema.specs.Schema.{elements_fit, attributes_fit, rows_asked, files, fits, in_bytes, schema_no_room, schema_done}
 use borrow.Author.Rules.{rules}
 use Rattle.dtd_schema.proofs.put_by.Goals as goal
+
+pub slice_bounds-names-end : goal.slice_bounds-names-end
+slice_bounds-names-end c =
+    let a = c.args in
+    let k : a.count ≤ length a.elements.now = elements_fit a.text.now a.elements.now a.contents.now a.ends.now a.attributes.now a.heads.now a.table.now a.count a.defined a.many c.requires.holds a.rows.now a.bytes.now c.requires.ways in
+    search (rules, k)
+
+pub slice_bounds-put_rows-end : goal.slice_bounds-put_rows-end
+slice_bounds-put_rows-end c =
+    let a = c.args in
+    let k : a.defined ≤ length a.attributes.now = attributes_fit a.text.now a.elements.now a.contents.now a.ends.now a.attributes.now a.heads.now a.table.now a.count a.defined a.many c.requires.holds a.rows.now a.bytes.now c.requires.ways in
+    search (rules, k)
 
 pub put_rows-requires : goal.put_rows-requires
 put_rows-requires c =
@@ -22,8 +36,8 @@ returns-then-file-n c =
     let f = c.put_file-n in
     schema_no_room a.text.now a.elements.now a.contents.now a.ends.now a.attributes.now a.heads.now a.table.now a.count a.defined a.many c.requires.holds a.rows.now a.bytes.now c.requires.ways r.new.rows r.auto.rows r.ensures f.result f.new.out f.ensures a.file.now c.refusal.result c.if-file-n.true c.refusal.ensures
 
-pub copy_bytes-requires : goal.copy_bytes-requires
-copy_bytes-requires c =
+pub copy-requires : goal.copy-requires
+copy-requires c =
     let a = c.args in
     let r = c.put_rows in
     let f = c.put_file-n in
@@ -43,4 +57,4 @@ returns c =
     let a = c.args in
     let r = c.put_rows in
     let f = c.put_file-n in
-    schema_done a.text.now a.elements.now a.contents.now a.ends.now a.attributes.now a.heads.now a.table.now a.count a.defined a.many c.requires.holds a.rows.now a.bytes.now c.requires.ways r.new.rows r.auto.rows r.ensures f.result f.new.out f.ensures a.file.now c.copy_bytes.new.dst c.if-file-n.false c.copy_bytes.ensures
+    schema_done a.text.now a.elements.now a.contents.now a.ends.now a.attributes.now a.heads.now a.table.now a.count a.defined a.many c.requires.holds a.rows.now a.bytes.now c.requires.ways r.new.rows r.auto.rows r.ensures f.result f.new.out f.ensures a.file.now c.copy.new.dst c.if-file-n.false c.copy.ensures

@@ -1,14 +1,10 @@
 -- `dtd_schema::put_rows` meets its contract: a row after another. Assumes nothing.
 use borrow.Author.Rules.{rules}
-use Prim.Native.Nat.{◌-◌}
-use Rattle.dtd_schema.specs.Rows.{begun, below, inside, next, filled}
+use Rattle.dtd_schema.specs.Rows.{begun, below, next, filled}
 use Rattle.dtd_schema.proofs.put_rows.Goals as goal
 
 pub loop-j-init : goal.loop-j-init
 loop-j-init c = search (rules, begun)
-
-pub bounds-elements-j : goal.bounds-elements-j
-bounds-elements-j c = search (rules, inside)
 
 pub store_row-requires : goal.store_row-requires
 store_row-requires c = search (rules, below)

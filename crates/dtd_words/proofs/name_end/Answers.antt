@@ -1,18 +1,18 @@
--- `dtd_words::name_end` meets its contract: the run goes on at i. Assumes nothing.
-use Prim.Native.Nat.{◌-◌}
+-- `dtd_words::name_end` meets its contract: how many bytes are taken. Assumes nothing.
 use borrow.Author.Rules.{rules}
+use Rattle.std.proofs.lemmas.List.{take_rest}
+use Rattle.std.proofs.Common.{◌∙◌, ◌-◌, length, take, drop, tests}
+use Rattle.std.proofs.lemmas.Iterator.{YieldsList-from_slice}
+use Rattle.std.proofs.lemmas.Iterator.Consumers.{count_from_yields_List}
+use Rattle.std.proofs.lemmas.Iterator.Search.{YieldsList-from_take_while}
+use Rattle.std.proofs.lemmas.List.Folds.{length-prefix_len}
 use Rattle.paper.specs.Dtd.Letters.{is_more}
-use Rattle.dtd_words.specs.Places.{begun, more, ends, none}
+use Rattle.dtd_words.specs.Places.{behind_run}
 use Rattle.dtd_words.proofs.name_end.Goals as goal
 
-pub loop-i-init : goal.loop-i-init
-loop-i-init c = search (rules, begun is_more)
-
-pub loop-i-preserved : goal.loop-i-preserved
-loop-i-preserved c = search (more is_more)
-
-pub returns-else-is_more : goal.returns-else-is_more
-returns-else-is_more c = search (ends is_more)
-
 pub returns : goal.returns
-returns c = search (none is_more)
+returns c =
+    let text = c.args.text.now in
+    let s = take (length text - c.args.at) (drop c.args.at text) in
+    let n = count_from_yields_List c.take_while.result _ c.count.ensures.ran (YieldsList-from_take_while _ is_more (YieldsList-from_slice s (cc)) c.take_while.ensures.closure c.take_while.ensures.done (λ x b q k. search (rules, tests))) ∙ length-prefix_len is_more s in
+    behind_run is_more text c.args.at c.count.result c.requires (n ∙ rw take_rest)

@@ -1,29 +1,30 @@
--- `edit_file::edit_at` meets its contract: one law for each way out. `operation`, `place`, `count` and `piece` are the places after the calls that read them. Assumes nothing.
-use native.Mathlib.Omega.{arith}
+-- `edit_file::edit_at` meets its contract: one law for each way out. Assumes nothing.
+use Rattle.std.proofs.Common.{◌≡◌, arith, length, take, length-take-le}
+use borrow.Author.Rules.{rules}
+use Rattle.reading.specs.Ended.{handed}
 use Rattle.edit_file.specs.Request.{edit_operation, edit_place, edit_count, edit_over, edit_piece, edit_made}
 use Rattle.edit_file.proofs.edit_at.Goals as goal
 
-pub returns-then-o-ne-DONE : goal.returns-then-o-ne-DONE
-returns-then-o-ne-DONE c = search edit_operation
+pub returns-in_err-operation : goal.returns-in_err-operation
+returns-in_err-operation c = rw (handed c.from_residual.ensures.1) (edit_operation c.args.file.now c.args.at _ c.in_err-operation.ensures)
 
-pub returns-then-w-ne-DONE : goal.returns-then-w-ne-DONE
-returns-then-w-ne-DONE c = search edit_place
+pub returns-in_err-place : goal.returns-in_err-place
+returns-in_err-place c =
+    rw (handed c.from_residual-in_err-place.ensures.1) (edit_place c.args.file.now c.args.at c.in_ok-operation.ensures _ c.in_err-place.ensures)
 
-pub returns-then-n-ne-DONE : goal.returns-then-n-ne-DONE
-returns-then-n-ne-DONE c = search edit_count
+pub returns-in_err-n : goal.returns-in_err-n
+returns-in_err-n c =
+    rw (handed c.from_residual-in_err-n.ensures.1)
+    (edit_count c.args.file.now c.args.at c.in_ok-operation.ensures c.in_ok-place.ensures _ c.in_err-n.ensures)
 
 pub returns-then-count-gt-MOST_TOKENS : goal.returns-then-count-gt-MOST_TOKENS
-returns-then-count-gt-MOST_TOKENS c = search edit_over
+returns-then-count-gt-MOST_TOKENS c = search (edit_over c.args.file.now c.args.at c.in_ok-operation.ensures c.in_ok-place.ensures c.in_ok-n.ensures)
 
-pub put_piece-p-requires : goal.put_piece-p-requires
-put_piece-p-requires c =
-    ((c.number_in-n.ensures.went c.if-n-ne-DONE.false).within, omega (arith, c.requires, c.if-count-gt-MOST_TOKENS.false))
-
-pub returns-then-p-ne-DONE : goal.returns-then-p-ne-DONE
-returns-then-p-ne-DONE c =
-    edit_piece c.args.file.now c.args.at c.number_in-o.ensures c.if-o-ne-DONE.false c.number_in-w.ensures
-    c.if-w-ne-DONE.false c.number_in-n.ensures c.if-n-ne-DONE.false c.if-count-gt-MOST_TOKENS.false
-    c.put_piece-p.ensures c.if-p-ne-DONE.true c.no_edit-then-p-ne-DONE.ensures
+pub returns-in_err-next : goal.returns-in_err-next
+returns-in_err-next c =
+    let k : length (take c.in_ok-n.n.value c.args.piece.now) ≡ c.in_ok-n.n.value = length-take-le _ _ (omega (arith, c.requires)) in
+    rw (handed c.from_residual-in_err-next.ensures.1)
+    (edit_piece c.args.file.now c.args.at c.in_ok-operation.ensures c.in_ok-place.ensures c.in_ok-n.ensures (omega arith) k _ c.in_err-next.ensures)
 
 pub returns : goal.returns
-returns c = search edit_made
+returns c = search (edit_made c.args.file.now c.args.at c.in_ok-operation.ensures c.in_ok-place.ensures c.in_ok-n.ensures, c.in_ok-next.ensures, rules)

@@ -18,4 +18,4 @@ moves-requires c =
 pub returns : goal.returns
 returns c =
     let a = c.args in
-    part_moved a.table.now a.at a.cut a.coming a.doc.now a.new.now c.moves.ensures
+    part_moved a.table.now a.at a.cut a.coming a.doc.now a.new.now a.counts.now c.moves.result c.moves.ensures

@@ -1,4 +1,4 @@
--- `fixed::proper_entries` meets its contract. The loop's invariant is `Testing`; the measure is how many entries are left. Assumes nothing.
+-- `fixed::proper_entries` meets its contract. The loop's invariant is `Testing`. Assumes nothing.
 use borrow.Author.Rules.{rules}
 use Rattle.fixed.specs.Entry.{next_fits}
 use Rattle.fixed.specs.Entries.{testing_none, not_next, testing_more, testing_all}

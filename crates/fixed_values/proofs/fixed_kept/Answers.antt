@@ -1,4 +1,4 @@
--- `fixed_values::fixed_kept` meets its contract. The loop's invariant is `Keeping`; the measure is how many tokens are left. Assumes nothing.
+-- `fixed_values::fixed_kept` meets its contract. The loop's invariant is `Keeping`. Assumes nothing.
 use Rattle.fixed_values.specs.Kept.{keeping_none, keeping_not, keeping_attribute, keeping_value, keeping_other, keeping_all}
 use Rattle.fixed_values.proofs.fixed_kept.Goals as goal
 

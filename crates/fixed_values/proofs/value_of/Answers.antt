@@ -1,4 +1,4 @@
--- `fixed_values::value_of` meets its contract. The loop's invariant is `Looking`; the measure is how many entries are left. Assumes nothing.
+-- `fixed_values::value_of` meets its contract. The loop's invariant is `Looking`. Assumes nothing.
 use Rattle.fixed_values.specs.Value.{count_in, looking_none, looking_found, looking_more, looking_all}
 use Rattle.fixed_values.proofs.value_of.Goals as goal
 

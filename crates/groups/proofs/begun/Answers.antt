@@ -1,62 +1,70 @@
 -- `groups::begun` meets its contract. Assumes nothing.
 use mathlib.Core.Path.{◌≡◌, refl, ap, ◌∙◌}
 use native.Mathlib.Omega.{arith}
+use Rattle.std.proofs.Common.{sym, length-take, length-take-le}
 use mir.Syntax.{w32}
 use mir.Val.{to_z, of_z}
 use borrow.Author.Rules.{rules}
 use Rattle.shape_laws.specs.Shaped.{shaped}
-use Rattle.groups.specs.Outcomes.{start_length, start_shape, ran, begun_edit, last_long, last_few, last_room, begun_fault, begun_done}
+use Rattle.groups.specs.Outcomes.{start_length, start_shape, ran_through, ran_into, begun_edit, last_long, last_few, last_room, begun_fault, begun_done}
 use Rattle.groups.proofs.begun.Goals as goal
 
-pub copy_tokens-requires : goal.copy_tokens-requires
-copy_tokens-requires c =
+pub copy-requires : goal.copy-requires
+copy-requires c =
     let l = (shaped c.args.doc.now c.args.used c.requires.1).long in
     (omega (arith, c.requires.3), omega arith)
 
-pub work-w-requires : goal.work-w-requires
-work-w-requires c =
+pub work-requires : goal.work-requires
+work-requires c =
     let a = c.args in
-    let e = c.copy_tokens.ensures in
+    let e = c.copy.ensures in
     let l = (shaped a.doc.now a.used c.requires.1).long in
     (omega (arith, start_length a.doc.now a.used a.second.now c.requires.1 c.requires.3 e, c.requires.3), omega (arith, c.requires.3), start_shape a.doc.now a.used a.second.now c.requires.1 c.requires.3 e, c.requires.2)
 
-pub returns-then-w-ne-DONE : goal.returns-then-w-ne-DONE
-returns-then-w-ne-DONE c =
+pub returns-in-Err : goal.returns-in-Err
+returns-in-Err c =
     let a = c.args in
-    begun_edit a.table.now a.doc.now a.used a.list.now a.second.now c.requires.1 c.requires.3 (ran a.table.now a.doc.now a.used a.list.now a.second.now c.requires.1 c.requires.3 c.requires.2 c.copy_tokens.ensures c.work-w.ensures) (λ z. absurd (omega (arith, c.if-w-ne-DONE.true))) c.refused.ensures
+    begun_edit a.table.now a.doc.now a.used a.list.now a.second.now c.requires.1 c.requires.3 c.in-Err.s.refusal (ran_into a.table.now a.doc.now a.used a.list.now a.second.now c.requires.1 c.requires.3 c.requires.2 c.copy.ensures c.in-Err.ensures) c.refused.ensures
 
-pub judged_whole-fault-requires : goal.judged_whole-fault-requires
-judged_whole-fault-requires c =
+pub slice_bounds-judged_whole-end : goal.slice_bounds-judged_whole-end
+slice_bounds-judged_whole-end c =
     let a = c.args in
-    let r = ran a.table.now a.doc.now a.used a.list.now a.second.now c.requires.1 c.requires.3 c.requires.2 c.copy_tokens.ensures c.work-w.ensures in
-    let z = c.if-w-ne-DONE.false in
-    let start = shaped a.doc.now a.used c.requires.1 in
-    let long = last_long a.table.now a.doc.now a.used a.list.now a.second.now c.requires.1 c.requires.3 r z in
-    let few = last_few a.table.now a.doc.now a.used a.list.now a.second.now c.requires.1 c.requires.3 r z in
-    (c.requires.0, omega (arith, long, start), omega (arith, few, start))
+    last_long a.table.now a.doc.now a.used a.list.now a.second.now c.requires.1 c.requires.3 (ran_through a.table.now a.doc.now a.used a.list.now a.second.now c.requires.1 c.requires.3 c.requires.2 c.copy.ensures c.in-Ok.ensures)
 
-pub returns-then-fault-ne-DONE : goal.returns-then-fault-ne-DONE
-returns-then-fault-ne-DONE c =
+pub slice_bounds-judged_whole-end-2 : goal.slice_bounds-judged_whole-end-2
+slice_bounds-judged_whole-end-2 c = let a = c.args in sym (length-take-le _ _ (last_long a.table.now a.doc.now a.used a.list.now a.second.now c.requires.1 c.requires.3 (ran_through a.table.now a.doc.now a.used a.list.now a.second.now c.requires.1 c.requires.3 c.requires.2 c.copy.ensures c.in-Ok.ensures)))
+
+pub slice_bounds-write-end : goal.slice_bounds-write-end
+slice_bounds-write-end c = let a = c.args in last_long a.table.now a.doc.now a.used a.list.now a.second.now c.requires.1 c.requires.3 (ran_through a.table.now a.doc.now a.used a.list.now a.second.now c.requires.1 c.requires.3 c.requires.2 c.copy.ensures c.in-Ok.ensures)
+
+pub slice_bounds-write-end-2 : goal.slice_bounds-write-end-2
+slice_bounds-write-end-2 c = let a = c.args in sym (length-take-le _ _ (last_long a.table.now a.doc.now a.used a.list.now a.second.now c.requires.1 c.requires.3 (ran_through a.table.now a.doc.now a.used a.list.now a.second.now c.requires.1 c.requires.3 c.requires.2 c.copy.ensures c.in-Ok.ensures)))
+
+pub judged_whole-requires : goal.judged_whole-requires
+judged_whole-requires c =
     let a = c.args in
-    begun_fault a.table.now a.doc.now a.used a.list.now a.second.now c.requires.1 c.requires.3 (ran a.table.now a.doc.now a.used a.list.now a.second.now c.requires.1 c.requires.3 c.requires.2 c.copy_tokens.ensures c.work-w.ensures) c.if-w-ne-DONE.false c.judged_whole-fault.ensures (λ z. absurd (omega (arith, c.if-fault-ne-DONE.true))) c.refused-then-fault-ne-DONE.ensures
+    (c.requires.0, omega (arith, length-take c.in-Ok.end c.work.new.second, last_few a.table.now a.doc.now a.used a.list.now a.second.now c.requires.1 c.requires.3 (ran_through a.table.now a.doc.now a.used a.list.now a.second.now c.requires.1 c.requires.3 c.requires.2 c.copy.ensures c.in-Ok.ensures)))
+
+pub returns-in-Err-judged_whole : goal.returns-in-Err-judged_whole
+returns-in-Err-judged_whole c =
+    let a = c.args in
+    begun_fault a.table.now a.doc.now a.used a.list.now a.second.now c.requires.1 c.requires.3 (ran_through a.table.now a.doc.now a.used a.list.now a.second.now c.requires.1 c.requires.3 c.requires.2 c.copy.ensures c.in-Ok.ensures) c.in-Err-judged_whole.fault.refusal c.in-Err-judged_whole.ensures c.refused-in-Err-judged_whole.ensures
 
 pub write-requires : goal.write-requires
 write-requires c =
     let a = c.args in
-    let r = ran a.table.now a.doc.now a.used a.list.now a.second.now c.requires.1 c.requires.3 c.requires.2 c.copy_tokens.ensures c.work-w.ensures in
-    let z = c.if-w-ne-DONE.false in
-    (omega arith, last_room a.table.now a.doc.now a.used a.list.now a.second.now c.requires.1 c.requires.3 r z, last_long a.table.now a.doc.now a.used a.list.now a.second.now c.requires.1 c.requires.3 r z, (shaped a.doc.now a.used c.requires.1).long, refl)
+    let room = last_room a.table.now a.doc.now a.used a.list.now a.second.now c.requires.1 c.requires.3 (ran_through a.table.now a.doc.now a.used a.list.now a.second.now c.requires.1 c.requires.3 c.requires.2 c.copy.ensures c.in-Ok.ensures) in
+    (omega arith, omega (arith, length-take c.in-Ok.end c.work.new.second, room), (shaped a.doc.now a.used c.requires.1).long, refl)
 
 pub change_of-requires : goal.change_of-requires
 change_of-requires c =
     let a = c.args in
-    let r = ran a.table.now a.doc.now a.used a.list.now a.second.now c.requires.1 c.requires.3 c.requires.2 c.copy_tokens.ensures c.work-w.ensures in
-    ((shaped a.doc.now a.used c.requires.1).few, last_few a.table.now a.doc.now a.used a.list.now a.second.now c.requires.1 c.requires.3 r c.if-w-ne-DONE.false)
+    ((shaped a.doc.now a.used c.requires.1).few, last_few a.table.now a.doc.now a.used a.list.now a.second.now c.requires.1 c.requires.3 (ran_through a.table.now a.doc.now a.used a.list.now a.second.now c.requires.1 c.requires.3 c.requires.2 c.copy.ensures c.in-Ok.ensures))
 
 pub returns : goal.returns
 returns c =
     let a = c.args in
-    let end = c.work-w.result.used in
+    let end = c.in-Ok.end in
     let t : to_z w32 (of_z w32 c.change_of.result) ≡ c.change_of.result = search rules in
-    begun_done a.table.now a.doc.now a.used a.list.now a.second.now c.requires.1 c.requires.3 (ran a.table.now a.doc.now a.used a.list.now a.second.now c.requires.1 c.requires.3 c.requires.2 c.copy_tokens.ensures c.work-w.ensures) c.if-w-ne-DONE.false c.judged_whole-fault.ensures c.if-fault-ne-DONE.false c.write.ensures
+    begun_done a.table.now a.doc.now a.used a.list.now a.second.now c.requires.1 c.requires.3 (ran_through a.table.now a.doc.now a.used a.list.now a.second.now c.requires.1 c.requires.3 c.requires.2 c.copy.ensures c.in-Ok.ensures) c.in_default.ensures c.write.ensures
     (ap (λ x. record { number = 0; place = 0; used = end; change = x; which = 0 }) (t ∙ c.change_of.ensures))

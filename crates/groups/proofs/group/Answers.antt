@@ -2,7 +2,8 @@
 use mathlib.Core.Bool.{not}
 use Rattle.shape_laws.specs.Shaped.{shaped}
 use Rattle.groups.specs.Outcomes.{group_table, group_shape, group_list, group_short, group_begun, is_good}
-use mathlib.Core.Path.{sym, ◌∙◌, ap}
+use mathlib.Core.Path.{refl, ap}
+use Rattle.working.specs.Working.{some_number}
 use native.Mathlib.Omega.{arith}
 use Rattle.groups.proofs.group.Goals as goal
 
@@ -14,27 +15,26 @@ returns-then-not-shape c =
     let a = c.args in
     group_shape a.table.now a.doc.now a.used a.list.now a.second.now c.proper.ensures (ap not c.if-not-proper.false) c.shape.ensures (ap not c.if-not-shape.true) c.refused-then-not-shape.ensures
 
-pub returns-then-fault-ne-DONE : goal.returns-then-fault-ne-DONE
-returns-then-fault-ne-DONE c =
+pub returns-in-Err : goal.returns-in-Err
+returns-in-Err c =
     let a = c.args in
-    group_list a.table.now a.doc.now a.used a.list.now a.second.now c.proper.ensures (ap not c.if-not-proper.false) c.shape.ensures (ap not c.if-not-shape.false) c.list_fault-fault.ensures
-    (λ z. absurd (omega (arith, c.if-fault-ne-DONE.true))) c.refused-then-fault-ne-DONE.ensures
+    group_list a.table.now a.doc.now a.used a.list.now a.second.now c.proper.ensures (ap not c.if-not-proper.false) c.shape.ensures (ap not c.if-not-shape.false) c.in-Err.ensures (some_number c.in-Err.refusal) c.refused-in-Err.ensures
 
 pub returns-then-second-doc : goal.returns-then-second-doc
 returns-then-second-doc c =
     let a = c.args in
-    group_short a.table.now a.doc.now a.used a.list.now a.second.now c.proper.ensures (ap not c.if-not-proper.false) c.shape.ensures (ap not c.if-not-shape.false) c.list_fault-fault.ensures
-    c.if-fault-ne-DONE.false (omega (arith, c.if-second-doc.true, (shaped a.doc.now a.used (is_good c.shape.ensures (ap not c.if-not-shape.false))).long)) c.refused-then-second-doc.ensures
+    group_short a.table.now a.doc.now a.used a.list.now a.second.now c.proper.ensures (ap not c.if-not-proper.false) c.shape.ensures (ap not c.if-not-shape.false) c.in_default.ensures
+    refl (omega (arith, c.if-second-doc.true, (shaped a.doc.now a.used (is_good c.shape.ensures (ap not c.if-not-shape.false))).long)) c.refused-then-second-doc.ensures
 
 pub begun-requires : goal.begun-requires
 begun-requires c = (
   is_good c.proper.ensures (ap not c.if-not-proper.false),
   is_good c.shape.ensures (ap not c.if-not-shape.false),
-  sym c.if-fault-ne-DONE.false ∙ c.list_fault-fault.ensures,
+  c.in_default.ensures,
   omega (arith, c.if-second-doc.false),
 )
 
 pub returns : goal.returns
 returns c =
     let a = c.args in
-    group_begun a.table.now a.doc.now a.used a.list.now a.second.now c.proper.ensures (ap not c.if-not-proper.false) c.shape.ensures (ap not c.if-not-shape.false) c.list_fault-fault.ensures c.begun.ensures
+    group_begun a.table.now a.doc.now a.used a.list.now a.second.now c.proper.ensures (ap not c.if-not-proper.false) c.shape.ensures (ap not c.if-not-shape.false) c.in_default.ensures c.begun.ensures

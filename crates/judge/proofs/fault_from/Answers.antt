@@ -12,16 +12,16 @@ bounds-table-0 c = search (rules, table_has)
 pub returns-then-e-table : goal.returns-then-e-table
 returns-then-e-table c = search fault_name
 
-pub returns-then-not-front : goal.returns-then-not-front
-returns-then-not-front c = search fault_attributes
+pub returns-in-None : goal.returns-in-None
+returns-in-None c = fault_attributes c.args.table.now c.args.e c.args.doc.now c.args.start (omega arith) c.in-None.ensures
 
 pub overflow_cast-result : goal.overflow_cast-result
 overflow_cast-result c =
-    let h = stop_within _ _ c.args.doc.now c.args.used _ c.requires.used_in_bounds.0 c.attributes-front.ensures.within c.content-walk.ensures.stops c.in-At.is in
-    omega (arith, h, c.requires.used_in_bounds)
+    let h = stop_within _ _ c.args.doc.now _ c.in-Some.ensures.1.within c.in-Err.ensures in
+    omega (arith, h, c.requires.start_in_bounds)
 
-pub returns-in-Nowhere : goal.returns-in-Nowhere
-returns-in-Nowhere c = search fault_none
+pub returns-in-Ok : goal.returns-in-Ok
+returns-in-Ok c = fault_none c.args.table.now c.args.e c.args.doc.now c.args.start (omega arith) c.in-Some.ensures c.in-Ok.ensures
 
-pub returns-in-At : goal.returns-in-At
-returns-in-At c = search fault_content
+pub returns-in-Err : goal.returns-in-Err
+returns-in-Err c = fault_content c.args.table.now c.args.e c.args.doc.now c.args.start (omega arith) c.in-Some.ensures c.in-Err.ensures

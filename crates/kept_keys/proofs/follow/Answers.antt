@@ -15,9 +15,14 @@ overflow_add-gone-2 c = search (rules, gone_fits)
 pub overflow_add-come : goal.overflow_add-come
 overflow_add-come c = search (rules, come_fits)
 
+pub slice_bounds-went-end : goal.slice_bounds-went-end
+slice_bounds-went-end c = search (rules, gone_within)
+
+pub slice_bounds-came-end : goal.slice_bounds-came-end
+slice_bounds-came-end c = search (rules, come_within)
+
 pub exchange-requires : goal.exchange-requires
-exchange-requires c =
-    record { table_value = (search rules, search gone_within, search come_within); long = (search rules, search follow_enough, search follow_fits) }
+exchange-requires c = record { table_value = search rules; long = (search rules, search (rules, follow_enough), search (rules, follow_fits)) }
 
 pub returns-then-not-exchange : goal.returns-then-not-exchange
 returns-then-not-exchange c =
@@ -25,7 +30,7 @@ returns-then-not-exchange c =
     search (rules, told)
 
 pub none_owed-requires : goal.none_owed-requires
-none_owed-requires c = (search rules, search gone_within, search come_within, search rules)
+none_owed-requires c = search rules
 
 pub returns : goal.returns
 returns c =

@@ -1,6 +1,6 @@
 -- `keys::dangling_reference` meets its contract. The invariant is `Looking`; the measure is how many tokens are left. Assumes nothing.
 use borrow.Author.Rules.{rules}
-use Rattle.keys.specs.Looking.{look_none, look_end, look_in, look_read, look_pass, look_bit, look_found, look_more, look_less}
+use Rattle.keys.specs.Looking.{look_none, look_end, look_in, look_pass, look_bit, look_found, look_more, look_less}
 use Rattle.keys.proofs.dangling_reference.Goals as goal
 
 pub loop-left-init : goal.loop-left-init
@@ -10,7 +10,7 @@ pub overflow_cast-here : goal.overflow_cast-here
 overflow_cast-here c = search (rules, look_in)
 
 pub bounds-doc-i : goal.bounds-doc-i
-bounds-doc-i c = search look_read
+bounds-doc-i c = search look_in
 
 pub pass-at-requires : goal.pass-at-requires
 pass-at-requires c = search (rules, look_in)

@@ -2,8 +2,8 @@
 use Rattle.keys.specs.Answer.{key_first, key_none}
 use Rattle.keys.proofs.key_fault.Goals as goal
 
-pub returns-then-first-used : goal.returns-then-first-used
-returns-then-first-used c = search key_none
+pub returns-then-first-doc : goal.returns-then-first-doc
+returns-then-first-doc c = search key_none
 
 pub returns : goal.returns
 returns c = search key_first

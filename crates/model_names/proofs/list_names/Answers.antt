@@ -5,20 +5,20 @@ use Rattle.model_names.specs.Listed.{none_listed, name_room, name_listed, not_li
 use Rattle.model_names.proofs.list_names.Goals as goal
 use Rattle.model_names.proofs.list_names.Goals.{then-symbol-ge-NAMED, else-symbol-ge-NAMED}
 
-pub loop-i-init : goal.loop-i-init
-loop-i-init c = search none_listed
+pub loop-symbol-init : goal.loop-symbol-init
+loop-symbol-init c = search none_listed
 
 pub offset_bounds-names-n : goal.offset_bounds-names-n
-offset_bounds-names-n c = let r : c.loop-i.n < length c.loop-i.names = search name_room in omega arith
+offset_bounds-names-n c = let r : c.loop-symbol.n < length c.loop-symbol.names = search name_room in omega arith
 
 pub bounds-names-n : goal.bounds-names-n
 bounds-names-n c = search name_room
 
 pub overflow_add-n : goal.overflow_add-n
-overflow_add-n c = let r : c.loop-i.n < length c.loop-i.names = search name_room in omega arith
+overflow_add-n c = let r : c.loop-symbol.n < length c.loop-symbol.names = search name_room in omega arith
 
-pub loop-i-preserved : goal.loop-i-preserved
-loop-i-preserved c = elim c.if-symbol-ge-NAMED.branch [ then-symbol-ge-NAMED w ↦ search name_listed | else-symbol-ge-NAMED w ↦ search not_listed ]
+pub loop-symbol-preserved : goal.loop-symbol-preserved
+loop-symbol-preserved c = elim c.if-symbol-ge-NAMED.branch [ then-symbol-ge-NAMED w ↦ search name_listed | else-symbol-ge-NAMED w ↦ search not_listed ]
 
 pub returns : goal.returns
 returns c = search all_listed

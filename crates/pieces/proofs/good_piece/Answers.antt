@@ -1,21 +1,21 @@
 -- `pieces::good_piece` meets its contract. Assumes nothing.
-use Rattle.pieces.specs.Pieces.{piece_long, piece_1, piece_2, piece_3, piece_4, piece_5}
+use Rattle.pieces.specs.Pieces.{piece_long, piece_inserted, piece_removed, piece_replaced, piece_set, piece_dropped}
 use Rattle.pieces.proofs.good_piece.Goals as goal
 
 pub returns-then-piece-gt-MOST_TOKENS : goal.returns-then-piece-gt-MOST_TOKENS
 returns-then-piece-gt-MOST_TOKENS c = search piece_long
 
-pub returns-then-operation-eq-INSERT : goal.returns-then-operation-eq-INSERT
-returns-then-operation-eq-INSERT c = search piece_1
+pub returns-in-Insert : goal.returns-in-Insert
+returns-in-Insert c = search piece_inserted
 
-pub returns-then-operation-eq-REMOVE : goal.returns-then-operation-eq-REMOVE
-returns-then-operation-eq-REMOVE c = search piece_2
+pub returns-in-Remove : goal.returns-in-Remove
+returns-in-Remove c = search piece_removed
 
-pub returns-then-operation-eq-REPLACE : goal.returns-then-operation-eq-REPLACE
-returns-then-operation-eq-REPLACE c = search piece_3
+pub returns-in-Replace : goal.returns-in-Replace
+returns-in-Replace c = search piece_replaced
 
-pub returns-then-operation-eq-SET : goal.returns-then-operation-eq-SET
-returns-then-operation-eq-SET c = search piece_4
+pub returns-in-Set : goal.returns-in-Set
+returns-in-Set c = search piece_set
 
-pub returns : goal.returns
-returns c = search piece_5
+pub returns-in-Drop : goal.returns-in-Drop
+returns-in-Drop c = search piece_dropped

@@ -1,6 +1,7 @@
 use Prim.Native.Nat.{◌≤◌, ◌<◌}
 use native.Mathlib.Omega.{arith}
 use Rattle.places.specs.Items.{start_within, end_behind, end_within, item_start, item_text, item_none}
+use Rattle.std.proofs.Math.ListN.{length}
 use borrow.Author.Rules.{rules}
 use Rattle.places.proofs.item_size.Goals as goal
 
@@ -13,8 +14,8 @@ overflow_sub-result c = search end_behind
 pub overflow_add-result : goal.overflow_add-result
 overflow_add-result c =
     let a = c.args in
-    let b : a.place < a.used = search start_within in
-    let h : c.end_of.result ≤ a.used = search end_within in
+    let b : a.place < length a.doc.now = search start_within in
+    let h : c.end_of.result ≤ length a.doc.now = search end_within in
     omega arith
 
 pub returns-then-is_start : goal.returns-then-is_start

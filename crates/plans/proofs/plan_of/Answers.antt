@@ -1,45 +1,21 @@
 -- `plans::plan_of` meets its contract. Assumes nothing.
-use Rattle.plans.specs.Plan.{plan_1, plan_2, plan_3, plan_none, plan_attr, start_place, slot_place}
-use native.Mathlib.Omega.{arith}
-use Prim.Native.Nat.{◌≤◌, ◌<◌, ◌+◌}
+use Rattle.plans.specs.Plan.{plan_inserted, plan_removed, plan_replaced, plan_set, plan_no_head, plan_dropped}
 use Rattle.plans.proofs.plan_of.Goals as goal
 
-pub returns-then-operation-eq-INSERT : goal.returns-then-operation-eq-INSERT
-returns-then-operation-eq-INSERT c = search plan_1
+pub returns-in-Insert : goal.returns-in-Insert
+returns-in-Insert c = search plan_inserted
 
-pub returns-then-operation-eq-REMOVE : goal.returns-then-operation-eq-REMOVE
-returns-then-operation-eq-REMOVE c = search plan_2
+pub returns-in-Remove : goal.returns-in-Remove
+returns-in-Remove c = search plan_removed
 
-pub returns-then-operation-eq-REPLACE : goal.returns-then-operation-eq-REPLACE
-returns-then-operation-eq-REPLACE c = search plan_3
+pub returns-in-Replace : goal.returns-in-Replace
+returns-in-Replace c = search plan_replaced
 
-pub returns-then-not-is_start : goal.returns-then-not-is_start
-returns-then-not-is_start c = search plan_none
+pub returns-in-Set : goal.returns-in-Set
+returns-in-Set c = search plan_set
 
-pub overflow_add-at : goal.overflow_add-at
-overflow_add-at c =
-    let a = c.args in
-    let h : a.place < a.used = search start_place in
-    omega arith
+pub returns-in-Some : goal.returns-in-Some
+returns-in-Some c = search plan_dropped
 
-pub overflow_add-place : goal.overflow_add-place
-overflow_add-place c =
-    let a = c.args in
-    let h : a.place < a.used = search start_place in
-    omega arith
-
-pub slot_at-requires : goal.slot_at-requires
-slot_at-requires c =
-    let a = c.args in
-    let h : a.place < a.used = search start_place in
-    omega arith
-
-pub overflow_add-at-2 : goal.overflow_add-at-2
-overflow_add-at-2 c =
-    let a = c.args in
-    let h : a.place < a.used = search start_place in
-    let k : a.place + 1 + c.slot_at.result ≤ a.used = search slot_place in
-    omega arith
-
-pub returns : goal.returns
-returns c = search plan_attr
+pub returns-in_default : goal.returns-in_default
+returns-in_default c = search plan_no_head

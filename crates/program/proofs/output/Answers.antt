@@ -6,7 +6,7 @@ use Rattle.program.proofs.output.Goals as goal
 
 pub put_stop-requires : goal.put_stop-requires
 put_stop-requires c =
-    (record { low = omega arith; high = omega arith; not_four = λ y. omega arith }, omega (arith, c.put_stop-arg-1.given.0.1))
+    omega (arith, c.put_stop-arg-1.given.0.1)
 
 pub returns-then-not-opened : goal.returns-then-not-opened
 returns-then-not-opened c =
@@ -15,7 +15,7 @@ returns-then-not-opened c =
 
 pub put_stop-requires-then-not-short : goal.put_stop-requires-then-not-short
 put_stop-requires-then-not-short c =
-    (record { low = omega arith; high = omega arith; not_four = λ y. omega arith }, omega (arith, c.put_stop-arg-then-not-short-1.given.0.1))
+    omega (arith, c.put_stop-arg-then-not-short-1.given.0.1)
 
 pub returns-then-not-short : goal.returns-then-not-short
 returns-then-not-short c =

@@ -1,4 +1,4 @@
--- `unused_from` meets its contract. The loop's invariant is `Unused`; the measure is how many blocks are left. Assumes nothing.
+-- `unused_from` meets its contract. The loop's invariant is `Unused`. Assumes nothing.
 use Rattle.proper.specs.Whole.{unused_none, unused_all, unused_more, unused_not}
 use Rattle.proper.proofs.unused_from.Goals as goal
 

@@ -1,34 +1,18 @@
-use Rattle.std.proofs.Common.{arith, rules}
-use Rattle.sets.specs.Lowest.{turn}
-use Rattle.set_walks.specs.Joined.{none_joined, one_joined, all_joined}
+-- `connect` meets its contract. The loop: what the members that are left come to is the answer. Assumes nothing.
+use Rattle.std.proofs.Common.{refl, ap, arith}
+use Rattle.sets.specs.declared.Members.{Members}
+use Rattle.sets.specs.Lowest.{taken_below}
+use Rattle.set_walks.specs.Joined.{none_joined, all_joined, one_joined}
 use Rattle.set_walks.proofs.connect.Goals as goal
 
-pub loop-rest-init : goal.loop-rest-init
-loop-rest-init c = search (rules, none_joined)
-
-pub overflow_cast-k : goal.overflow_cast-k
-overflow_cast-k c = let t = turn 64 c.loop-rest.rest c.loop-rest.invariant.fits c.loop-rest-test.true in omega arith
-
-pub offset_bounds-follow-k : goal.offset_bounds-follow-k
-offset_bounds-follow-k c = let t = turn 64 c.loop-rest.rest c.loop-rest.invariant.fits c.loop-rest-test.true in omega arith
+pub loop-k-init : goal.loop-k-init
+loop-k-init c = let e = ap (λ (m : Members). m.0) c.into_iter-k-iterator.ensures.into_iter_gives in rw e (none_joined _ _ _ c.ranges.from.fits c.requires)
 
 pub bounds-follow-k : goal.bounds-follow-k
-bounds-follow-k c = let t = turn 64 c.loop-rest.rest c.loop-rest.invariant.fits c.loop-rest-test.true in omega arith
+bounds-follow-k c = let t = taken_below _ _ _ c.loop-k.invariant.fits c.in-Some.ensures.steps in omega arith
 
-pub offset_bounds-follow-k-in-loop-rest : goal.offset_bounds-follow-k-in-loop-rest
-offset_bounds-follow-k-in-loop-rest c = let t = turn 64 c.loop-rest.rest c.loop-rest.invariant.fits c.loop-rest-test.true in omega arith
-
-pub bounds-follow-k-in-loop-rest : goal.bounds-follow-k-in-loop-rest
-bounds-follow-k-in-loop-rest c = let t = turn 64 c.loop-rest.rest c.loop-rest.invariant.fits c.loop-rest-test.true in omega arith
-
-pub without_lowest-rest-requires : goal.without_lowest-rest-requires
-without_lowest-rest-requires c = omega arith
-
-pub loop-rest-smaller : goal.loop-rest-smaller
-loop-rest-smaller c = let t = turn 64 c.loop-rest.rest c.loop-rest.invariant.fits c.loop-rest-test.true in omega arith
-
-pub loop-rest-preserved : goal.loop-rest-preserved
-loop-rest-preserved c = search (rules, one_joined)
+pub loop-k-preserved : goal.loop-k-preserved
+loop-k-preserved c = one_joined _ _ _ _ c.loop-k.invariant c.in-Some.ensures.steps refl
 
 pub returns : goal.returns
-returns c = search (rules, all_joined)
+returns c = all_joined _ _ _ _ c.loop-k.invariant c.in-None.ensures.steps.0

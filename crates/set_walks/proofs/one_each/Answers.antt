@@ -1,40 +1,30 @@
-use Rattle.std.proofs.Common.{arith, rules}
-use Rattle.sets.specs.Lowest.{turn}
+-- `one_each` meets its contract. The loop: what the members that are left come to is the answer. Assumes nothing.
+use Rattle.std.proofs.Common.{ap, arith}
+use Rattle.sets.specs.declared.Members.{Members}
+use Rattle.sets.specs.Lowest.{taken_below}
 use Rattle.set_walks.specs.Seen.{none_seen, all_seen, name_low, seen_twice, seen_once}
 use Rattle.set_walks.proofs.one_each.Goals as goal
 
-pub loop-rest-init : goal.loop-rest-init
-loop-rest-init c = search (rules, none_seen)
-
-pub overflow_cast-k : goal.overflow_cast-k
-overflow_cast-k c = let t = turn 64 c.loop-rest.rest c.loop-rest.invariant.fits c.loop-rest-test.true in omega arith
-
-pub offset_bounds-names-k : goal.offset_bounds-names-k
-offset_bounds-names-k c = let t = turn 64 c.loop-rest.rest c.loop-rest.invariant.fits c.loop-rest-test.true in omega arith
+pub loop-k-init : goal.loop-k-init
+loop-k-init c = let e = ap (λ (m : Members). m.0) c.into_iter-k-iterator.ensures.into_iter_gives in rw e (none_seen _ _ c.ranges.set.fits c.requires.1)
 
 pub bounds-names-k : goal.bounds-names-k
-bounds-names-k c = let t = turn 64 c.loop-rest.rest c.loop-rest.invariant.fits c.loop-rest-test.true in omega arith
+bounds-names-k c = let t = taken_below _ _ _ c.loop-k.invariant.fits c.in-Some.ensures.steps in omega arith
 
-pub overflow_cast-name : goal.overflow_cast-name
-overflow_cast-name c = omega (arith, name_low _ _ _ _ c.loop-rest.invariant c.requires.0 c.loop-rest-test.true)
+pub overflow_cast-name-in-loop-k : goal.overflow_cast-name-in-loop-k
+overflow_cast-name-in-loop-k c = omega (arith, name_low _ _ _ _ c.loop-k.invariant c.requires.0 c.in-Some.ensures.steps)
 
 pub has-requires : goal.has-requires
-has-requires c = search (rules, name_low)
+has-requires c = name_low _ _ _ _ c.loop-k.invariant c.requires.0 c.in-Some.ensures.steps
 
 pub returns-then-has : goal.returns-then-has
-returns-then-has c = search (rules, seen_twice)
+returns-then-has c = seen_twice _ _ _ _ c.loop-k.invariant c.requires.0 c.in-Some.ensures.steps c.has.ensures c.if-has.true
 
 pub with-seen-requires : goal.with-seen-requires
-with-seen-requires c = search (rules, name_low)
+with-seen-requires c = name_low _ _ _ _ c.loop-k.invariant c.requires.0 c.in-Some.ensures.steps
 
-pub without_lowest-rest-requires : goal.without_lowest-rest-requires
-without_lowest-rest-requires c = omega arith
-
-pub loop-rest-smaller : goal.loop-rest-smaller
-loop-rest-smaller c = let t = turn 64 c.loop-rest.rest c.loop-rest.invariant.fits c.loop-rest-test.true in omega arith
-
-pub loop-rest-preserved : goal.loop-rest-preserved
-loop-rest-preserved c = search (rules, seen_once)
+pub loop-k-preserved : goal.loop-k-preserved
+loop-k-preserved c = seen_once _ _ _ _ c.loop-k.invariant c.requires.0 c.in-Some.ensures.steps c.has.ensures c.if-has.false c.with-seen.ensures
 
 pub returns : goal.returns
-returns c = search (rules, all_seen)
+returns c = all_seen _ _ _ _ c.loop-k.invariant c.in-None.ensures.steps.0

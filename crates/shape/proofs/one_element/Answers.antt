@@ -4,8 +4,8 @@ use mathlib.Core.Path.{refl}
 use native.Mathlib.Omega.{arith}
 use Rattle.shape.proofs.one_element.Goals as goal
 
-pub returns-then-used-eq0 : goal.returns-then-used-eq0
-returns-then-used-eq0 c = search scan_none
+pub returns-then-doc-eq0 : goal.returns-then-doc-eq0
+returns-then-doc-eq0 c = search scan_none
 
 pub returns-then-not-is_start : goal.returns-then-not-is_start
 returns-then-not-is_start c = search scan_no_start

@@ -1,5 +1,6 @@
--- `stops::texts_stop` meets its contract. The loop's invariant is `Reading`; the measure is how many tokens are left. Assumes nothing.
+-- `stops::texts_stop` meets its contract. The loop's invariant is `Reading`. Assumes nothing.
 use Rattle.stops.specs.Texts.{reading_begin, reading_out, reading_end, reading_start, reading_other, reading_more, reading_text}
+use Rattle.stops.proofs.texts_stop.Goals.{then-is_text+else-children-most, else-is_text}
 use Rattle.stops.proofs.texts_stop.Goals as goal
 
 pub loop-i-init : goal.loop-i-init
@@ -11,14 +12,15 @@ returns-then-is_end c = search reading_end
 pub returns-then-is_start : goal.returns-then-is_start
 returns-then-is_start c = search reading_start
 
-pub loop-i-preserved-then-not-is_text : goal.loop-i-preserved-then-not-is_text
-loop-i-preserved-then-not-is_text c = search reading_other
-
-pub returns-then-left-eq0 : goal.returns-then-left-eq0
-returns-then-left-eq0 c = search reading_more
-
-pub loop-i-preserved : goal.loop-i-preserved
-loop-i-preserved c = search reading_text
-
 pub returns : goal.returns
 returns c = search reading_out
+
+pub returns-then-children-most : goal.returns-then-children-most
+returns-then-children-most c = search reading_more
+
+pub loop-i-preserved : goal.loop-i-preserved
+loop-i-preserved c =
+    elim c.if-is_text.branch [
+      | then-is_text+else-children-most w ↦ rw w.children-is (search reading_text)
+      | else-is_text w ↦ rw w.children-is (search reading_other)
+    ]

@@ -20,30 +20,29 @@ overflow_add-begun c =
     let a = c.args in
     omega (arith, working_few a.second.now a.room a.used a.list.now c.requires.0 c.requires.1 c.requires.2 _ _ _ _ c.loop-at.invariant.0 (omega (arith, c.loop-at-test.true)))
 
-pub turn-t-requires : goal.turn-t-requires
-turn-t-requires c =
+pub turn-requires : goal.turn-requires
+turn-requires c =
     let a = c.args in
     let w = c.loop-at.invariant.0 in
     (working_room a.second.now a.room a.used a.list.now c.requires.0 c.requires.1 c.requires.2 _ _ _ _ w, working_within a.second.now a.room a.used a.list.now c.requires.0 c.requires.1 c.requires.2 _ _ _ _ w, working_shape a.second.now a.room a.used a.list.now c.requires.0 c.requires.1 c.requires.2 _ _ _ _ w, c.loop-at.invariant.2 ∙ c.requires.4)
 
-pub returns-then-t-ne-DONE : goal.returns-then-t-ne-DONE
-returns-then-t-ne-DONE c =
+pub returns-in-Err : goal.returns-in-Err
+returns-in-Err c =
     let a = c.args in
-    working_refused a.second.now a.room a.used a.list.now c.requires.0 c.requires.1 c.requires.2 _ _ _ _ c.loop-at.invariant.0 (omega (arith, c.loop-at-test.true)) c.edit_at-e.ensures c.turn-t.ensures
-    (λ z. absurd (omega (arith, c.if-t-ne-DONE.true))) refl
+    working_refused a.second.now a.room a.used a.list.now c.requires.0 c.requires.1 c.requires.2 _ _ _ _ c.loop-at.invariant.0 (omega (arith, c.loop-at-test.true)) c.edit_at-e.ensures c.in-Err.refusal c.in-Err.ensures
 
 pub loop-at-smaller : goal.loop-at-smaller
 loop-at-smaller c =
     let a = c.args in
-    working_less a.second.now a.room a.used a.list.now c.requires.0 c.requires.1 c.requires.2 _ _ _ _ c.loop-at.invariant.0 (omega (arith, c.loop-at-test.true)) c.edit_at-e.ensures c.turn-t.ensures
+    working_less a.second.now a.room a.used a.list.now c.requires.0 c.requires.1 c.requires.2 _ _ _ _ c.loop-at.invariant.0 (omega (arith, c.loop-at-test.true)) c.edit_at-e.ensures
 
 pub loop-at-preserved : goal.loop-at-preserved
 loop-at-preserved c =
     let a = c.args in
     let l = c.loop-at.invariant in
-    (working_next a.second.now a.room a.used a.list.now c.requires.0 c.requires.1 c.requires.2 _ _ _ _ l.0 (omega (arith, c.loop-at-test.true)) c.edit_at-e.ensures c.turn-t.ensures c.if-t-ne-DONE.false, search rules, search rules)
+    (working_next a.second.now a.room a.used a.list.now c.requires.0 c.requires.1 c.requires.2 _ _ _ _ c.loop-at.invariant.0 (omega (arith, c.loop-at-test.true)) c.edit_at-e.ensures c.in-Ok.ensures, search rules, search rules)
 
 pub returns : goal.returns
 returns c =
     let a = c.args in
-    working_end a.second.now a.room a.used a.list.now c.requires.0 c.requires.1 c.requires.2 _ _ _ _ c.loop-at.invariant.0 c.loop-at-test.false refl
+    working_end a.second.now a.room a.used a.list.now c.requires.0 c.requires.1 c.requires.2 _ _ _ _ c.loop-at.invariant.0 c.loop-at-test.false
