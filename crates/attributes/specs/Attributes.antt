@@ -1,5 +1,5 @@
 -- The pass over the attributes and values of one element. Assumes nothing.
-use Rattle.std.specs.Prelude.{◌≡◌, Option, Some, None, cond, ◌&&◌, ◌||◌, List, [], ◌∷◌, ℕ, zero, suc, ◌+◌, ◌/◌, ◌^◌, ◌≤◌, ◌<◌, leb, eqb, length, drop, get_or}
+use Rattle.std.specs.Prelude.{◌≡◌, Result, Ok, Err, IsErrAnd, cond, ◌&&◌, ◌||◌, List, [], ◌∷◌, ℕ, zero, suc, ◌+◌, ◌/◌, ◌^◌, ◌≤◌, ◌<◌, leb, eqb, length, drop, get_or}
 use Rattle.std.proofs.Math.Path.{refl, ap}
 use Rattle.std.proofs.Common.{sym, ap₂, ◌∙◌, add-one, arith, le-leb, eq-eqb, ne_eqb}
 use Rattle.std.proofs.Math.Bool.{Bool, true, false, not, and-true, and-false, and_assoc, or-false, or_assoc}
@@ -41,8 +41,8 @@ value_of m = record { set = m.set; takes = cond (eqb m.takes 1) 0 m.takes; good 
 abbrev pub finish : (required : ℕ) → Met → Bool
 finish required m = m.good && not (eqb m.takes 1) && within required m.set
 
-abbrev pub finished : (required : ℕ) → Met → (place : ℕ) → Option ℕ
-finished required m place = cond (finish required m) (Some place) None
+abbrev pub finished : (required : ℕ) → Met → (place : ℕ) → Result ℕ ℕ
+finished required m place = cond (finish required m) (Ok place) (Err place)
 
 -- ---- what the steps answer
 
@@ -71,11 +71,11 @@ module _ (m : Met) where
   value_other f = rw (ne_eqb m.takes 1 f)
 
   module _ (required place : ℕ) {y : Bool} (ey : y ≡ within required m.set) where
-    pub finished_some : (m.good && not (eqb m.takes 1) && y) ≡ true → Some place ≡ finished required m place
-    finished_some e = sym (ap (λ b. cond b (Some place) None) (ap (λ w. m.good && not (eqb m.takes 1) && w) (sym ey) ∙ e))
+    pub finished_ok : (m.good && not (eqb m.takes 1) && y) ≡ true → Ok place ≡ finished required m place
+    finished_ok e = sym (ap (λ b. cond b (Ok place) (Err place)) (ap (λ w. m.good && not (eqb m.takes 1) && w) (sym ey) ∙ e))
 
-    pub finished_none : (m.good && not (eqb m.takes 1) && y) ≡ false → None ≡ finished required m place
-    finished_none e = sym (ap (λ b. cond b (Some place) None) (ap (λ w. m.good && not (eqb m.takes 1) && w) (sym ey) ∙ e))
+    pub finished_err : (m.good && not (eqb m.takes 1) && y) ≡ false → Err place ≡ finished required m place
+    finished_err e = sym (ap (λ b. cond b (Ok place) (Err place)) (ap (λ w. m.good && not (eqb m.takes 1) && w) (sym ey) ∙ e))
 
 -- "each one allowed, all required present, one value each unless IDREFS"
 unfoldable pub listed_good : Rules → ℕ → List Tok → Bool
@@ -90,15 +90,15 @@ pub record Behind (doc : List ℕ) (at after : ℕ) : Type 0 where
   pub same : kids zero (drop after (toks doc)) ≡ kids zero (drop at (toks doc))
   pub places : (j : ℕ) → after + child_at j zero (drop after (toks doc)) ≡ at + child_at j zero (drop at (toks doc))
 
--- the answer of the pass: that place, if the attributes are good so far
-abbrev pub Listed : (table : List ℕ) (e : ℕ) (doc : List ℕ) (at : ℕ) → Option ℕ → Type 0
-Listed table e doc at (Some after) = (true ≡ listed_good (of_table table) e (heads (drop at (toks doc)))) × Behind doc at after
-Listed table e doc at None = false ≡ listed_good (of_table table) e (heads (drop at (toks doc)))
+-- the answer of the pass: that place, and whether the attributes are good so far
+abbrev pub Listed : (table : List ℕ) (e : ℕ) (doc : List ℕ) (at : ℕ) → Result ℕ ℕ → Type 0
+Listed table e doc at (Ok after) = (true ≡ listed_good (of_table table) e (heads (drop at (toks doc)))) × Behind doc at after
+Listed table e doc at (Err after) = (false ≡ listed_good (of_table table) e (heads (drop at (toks doc)))) × Behind doc at after
 
 -- the whole answer
-abbrev pub Judged : (table : List ℕ) (e : ℕ) (doc : List ℕ) (at : ℕ) → Option ℕ → Type 0
-Judged table e doc at (Some after) = (true ≡ attributes_good (of_table table) e (heads (drop at (toks doc)))) × Behind doc at after
-Judged table e doc at None = false ≡ attributes_good (of_table table) e (heads (drop at (toks doc)))
+abbrev pub Judged : (table : List ℕ) (e : ℕ) (doc : List ℕ) (at : ℕ) → Result ℕ ℕ → Type 0
+Judged table e doc at (Ok after) = (true ≡ attributes_good (of_table table) e (heads (drop at (toks doc)))) × Behind doc at after
+Judged table e doc at (Err after) = (false ≡ attributes_good (of_table table) e (heads (drop at (toks doc)))) × Behind doc at after
 
 -- both tests are those of the judgement
 good_parts : (table : List ℕ) (e : ℕ) (h : List Tok) → attributes_good (of_table table) e h ≡ listed_good (of_table table) e h && fixed_kept table e h
@@ -109,21 +109,23 @@ module _ (table : List ℕ) (e : ℕ) (doc : List ℕ) (at : ℕ) where
   abbrev h : List Tok
   h = heads (drop at (toks doc))
 
-  pub not_listed : false ≡ listed_good (of_table table) e h → false ≡ attributes_good (of_table table) e h
-  not_listed n = sym (good_parts table e h ∙ ap (λ b. b && fixed_kept table e h) (sym n))
+  -- the pass's Err is handed on
+  pub not_listed : {after : ℕ} → (false ≡ listed_good (of_table table) e h) × Behind doc at after → (r : Result ℕ ℕ) → IsErrAnd r (λ x. x ≡ after) → Judged table e doc at r
+  not_listed c (Ok x) i = absurd i
+  not_listed c (Err x) i = rw i (sym (good_parts table e h ∙ ap (λ b. b && fixed_kept table e h) (sym c.0)), c.1)
 
   module _ {after : ℕ} (c : (true ≡ listed_good (of_table table) e h) × Behind doc at after) where
     with_fixed : {k : Bool} → k ≡ fixed_kept table e h → k ≡ attributes_good (of_table table) e h
     with_fixed {k} q = sym (good_parts table e h ∙ ap₂ (λ a b. a && b) (sym c.0) (sym q))
 
-    pub none_fixed : get_or table fixed_at 0 ≡ 0 → Judged table e doc at (Some after)
+    pub none_fixed : get_or table fixed_at 0 ≡ 0 → Judged table e doc at (Ok after)
     none_fixed z = (with_fixed (sym (kept_none table e z h)), c.1)
 
-    pub fixed_all : {k : Bool} → k ≡ fixed_kept table e h → k ≡ true → Judged table e doc at (Some after)
+    pub fixed_all : {k : Bool} → k ≡ fixed_kept table e h → k ≡ true → Judged table e doc at (Ok after)
     fixed_all {k} q n = (sym n ∙ with_fixed q, c.1)
 
-    pub fixed_not : {k : Bool} → k ≡ fixed_kept table e h → k ≡ false → Judged table e doc at None
-    fixed_not {k} q n = sym n ∙ with_fixed q
+    pub fixed_not : {k : Bool} → k ≡ fixed_kept table e h → k ≡ false → Judged table e doc at (Err after)
+    fixed_not {k} q n = (sym n ∙ with_fixed q, c.1)
 
 -- ---- what is left to show, of the heads h behind what was passed
 
@@ -275,14 +277,14 @@ module _ (table : List ℕ) (e : ℕ) (doc : List ℕ) (at : ℕ) where
             left = rw add-one (rw (q, shows_value _ _ _ m (get_or doc i 0 / 8) (heads (drop (suc i) d))) at c.left);
           })
 
-    ended : {r : Option ℕ} → heads (drop i d) ≡ [] → r ≡ finished required m i → Listed table e doc at r
+    ended : {r : Result ℕ ℕ} → heads (drop i d) ≡ [] → r ≡ finished required m i → Listed table e doc at r
     ended {r} z er = rw er (go (finish required m) (shows_end _ _ _ m ∙ sym (rw z at c.left)))
       where
-        go : (b : Bool) → b ≡ listed_good (of_table table) e (heads (drop at d)) → Listed table e doc at (cond b (Some i) None)
+        go : (b : Bool) → b ≡ listed_good (of_table table) e (heads (drop at d)) → Listed table e doc at (cond b (Ok i) (Err i))
         go true g = (g, c.behind)
-        go false g = g
+        go false g = (g, c.behind)
 
-    pub passing_other : {x y : Bool} {r : Option ℕ} → i < length doc → x ≡ attr_tok (tok_of (get_or doc i 0)) → x ≡ false
+    pub passing_other : {x y : Bool} {r : Result ℕ ℕ} → i < length doc → x ≡ attr_tok (tok_of (get_or doc i 0)) → x ≡ false
         → y ≡ value_tok (tok_of (get_or doc i 0)) → y ≡ false → r ≡ finished required m i → Listed table e doc at r
     passing_other h ex f ey g er = ended (rw (rest_at doc i h) (no_head (tok_of (get_or doc i 0)) (sym ex ∙ f) (sym ey ∙ g))) er
       where
@@ -294,5 +296,5 @@ module _ (table : List ℕ) (e : ℕ) (doc : List ℕ) (at : ℕ) where
         no_head (Text n) f g = refl
         no_head Bad f g = refl
 
-    pub passing_out : {r : Option ℕ} → length doc ≤ i → r ≡ finished required m (length doc) → Listed table e doc at r
+    pub passing_out : {r : Result ℕ ℕ} → length doc ≤ i → r ≡ finished required m (length doc) → Listed table e doc at r
     passing_out h er = let z : length doc ≡ i = omega (arith, c.behind.within) in ended (rw (rest_past doc i h)) (er ∙ ap (finished required m) z)

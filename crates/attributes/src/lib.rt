@@ -77,20 +77,20 @@ fn value(m: Met) -> Met
     }
 }
 
-// Where no attribute and no value is left: that place, if the last attribute has its value, and each that is required was met.
-fn finished(required: u64, m: Met, place: usize) -> Option<usize>
+// That place, where no attribute and no value is left: `Ok`, if the last attribute has its value, and each that is required was met.
+fn finished(required: u64, m: Met, place: usize) -> Result<usize, usize>
     ensures { result ≡ finished required m place }
 {
     let good = m.good & (m.takes != 1) & is_within(required, m.set);
     if good {
-        return Some(place);
+        return Ok(place);
     }
-    None
+    Err(place)
 }
 
 // "attributes (8): each one allowed, all required present, one value each unless IDREFS": the place behind those that stand from a place
-// on, if they are so.
-fn listed(table: &[u64], e: usize, doc: &[u32], at: usize) -> Option<usize>
+// on; `Ok`, if they are so.
+fn listed(table: &[u64], e: usize, doc: &[u32], at: usize) -> Result<usize, usize>
     requires { (proper table.now ≡ true) × (e < get_or table.now 0 0) × (at ≤ length doc.now) }
     ensures { Listed table.now e doc.now at result }
 {
@@ -118,17 +118,17 @@ fn listed(table: &[u64], e: usize, doc: &[u32], at: usize) -> Option<usize>
 }
 
 // The same, and a fixed attribute "may be absent, and if present has exactly that value, else 8".
-pub fn attributes(table: &[u64], e: usize, doc: &[u32], at: usize) -> Option<usize>
+pub fn attributes(table: &[u64], e: usize, doc: &[u32], at: usize) -> Result<usize, usize>
     requires { (proper table.now ≡ true) × (e < get_or table.now 0 0) × (at ≤ length doc.now) }
     ensures { Judged table.now e doc.now at result }
 {
     let after = listed(table, e, doc, at)?;
     if table[FIXED_AT] == 0 {
-        return Some(after);
+        return Ok(after);
     }
     let kept = fixed_kept(table, e, doc, at);
     if !kept {
-        return None;
+        return Err(after);
     }
-    Some(after)
+    Ok(after)
 }

@@ -43,11 +43,11 @@ fn fault_from(
     }
     let name = e as usize;
     match attributes(table, name, doc, start + 1) {
-        None => Err(Fault {
+        Err(_) => Err(Fault {
             refusal: Refusal::Attributes,
             place: here,
         }),
-        Some(after) => match content(table, name, doc, closes, after) {
+        Ok(after) => match content(table, name, doc, closes, after) {
             Ok(children) => Ok(children),
             Err(place) => Err(Fault {
                 refusal: Refusal::Content,

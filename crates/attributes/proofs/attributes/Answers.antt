@@ -4,7 +4,7 @@ use Rattle.attributes.specs.Attributes.{not_listed, none_fixed, fixed_all, fixed
 use Rattle.attributes.proofs.attributes.Goals as goal
 
 pub returns-in_err-after : goal.returns-in_err-after
-returns-in_err-after c = rw c.from_residual.ensures (not_listed c.args.table.now c.args.e c.args.doc.now c.args.at c.in_err-after.ensures)
+returns-in_err-after c = not_listed c.args.table.now c.args.e c.args.doc.now c.args.at c.in_err-after.ensures _ c.from_residual.ensures.1
 
 pub bounds-table-6626 : goal.bounds-table-6626
 bounds-table-6626 c = search count_in

@@ -12,16 +12,16 @@ bounds-table-0 c = search (rules, table_has)
 pub returns-then-e-table : goal.returns-then-e-table
 returns-then-e-table c = search fault_name
 
-pub returns-in-None : goal.returns-in-None
-returns-in-None c = fault_attributes c.args.table.now c.args.e c.args.doc.now c.args.start (omega arith) c.in-None.ensures
+pub returns-in-Err : goal.returns-in-Err
+returns-in-Err c = fault_attributes c.args.table.now c.args.e c.args.doc.now c.args.start (omega arith) c.in-Err.ensures.0
 
 pub overflow_cast-result : goal.overflow_cast-result
 overflow_cast-result c =
-    let h = stop_within _ _ c.args.doc.now _ c.in-Some.ensures.1.within c.in-Err.ensures in
+    let h = stop_within _ _ c.args.doc.now _ c.in-Ok.ensures.1.within c.in-Err-content.ensures in
     omega (arith, h, c.requires.start_in_bounds)
 
-pub returns-in-Ok : goal.returns-in-Ok
-returns-in-Ok c = fault_none c.args.table.now c.args.e c.args.doc.now c.args.start (omega arith) c.in-Some.ensures c.in-Ok.ensures
+pub returns-in-Ok-content : goal.returns-in-Ok-content
+returns-in-Ok-content c = fault_none c.args.table.now c.args.e c.args.doc.now c.args.start (omega arith) c.in-Ok.ensures c.in-Ok-content.ensures
 
-pub returns-in-Err : goal.returns-in-Err
-returns-in-Err c = fault_content c.args.table.now c.args.e c.args.doc.now c.args.start (omega arith) c.in-Some.ensures c.in-Err.ensures
+pub returns-in-Err-content : goal.returns-in-Err-content
+returns-in-Err-content c = fault_content c.args.table.now c.args.e c.args.doc.now c.args.start (omega arith) c.in-Ok.ensures c.in-Err-content.ensures
