@@ -10,11 +10,12 @@ use Rattle.paper.specs.Edits.{Request, Edited, refused, done, Outcome, outcome, 
 use Rattle.paper.specs.Program.{Line, halt, line, request, second, edit_lines}
 use Rattle.paper.specs.Codes.{number_of}
 use Rattle.paper.specs.declared.Refusal.{Refusal}
+use Rattle.paper_laws.specs.Codes.{numbered}
 use Rattle.edits.specs.declared.Answer.{Answer}
 use Rattle.edits.specs.Outcomes.{outcome_of}
 use Rattle.edit_file.specs.declared.Edit.{Edit}
 use Rattle.lines.specs.Put.{Put, put_length, put_both, put_as, put_none}
-use Rattle.lines.specs.Lines.{line_of, text, text_none, text_more, line_room}
+use Rattle.lines.specs.Lines.{line_of, text, text_none, text_more, line_room, Stop}
 use Rattle.edit_file.specs.Request.{EditRead, EditRefused}
 
 -- the most bytes of all lines
@@ -116,6 +117,12 @@ module _ (table doc₀ : List ℕ) (used₀ : ℕ) (counts₀ : List ℤ) (file 
           rw (next, left, run_stop (of_table table) k doc used counts (length file - k) (get_or file from 0) (drop (suc from) file) s, text_more, text_none)
           (append-nil (line_of (halt (number_of e)))) in
           put_as (put_both g.put p) (sym (g.same ∙ ap (λ l. g.lines ++ l) t))
+
+      pub go_halt : {e : Refusal} {piece' : List ℕ} → EditRefused file from piece' e → Stop (number_of e)
+      go_halt {e} a = elim a.stops [
+        | inl f ↦ record { low = numbered e; high = omega arith; not_four = λ y. omega arith }
+        | inr f ↦ record { low = numbered e; high = omega arith; not_four = λ y. omega arith }
+      ]
 
       module _ {e : Edit} {piece' : List ℕ} (a : EditRead file from piece' e) where
         pub go_less : length file - e.next < length file - from

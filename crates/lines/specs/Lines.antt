@@ -1,7 +1,10 @@
--- The bytes of lines, and how many they are. Assumes nothing.
-use Rattle.std.specs.Prelude.{◌≡◌, refl, Bool, true, false, cond, List, [], ◌∷◌, ◌++◌, map, ℕ, zero, suc, ◌+◌, ◌-◌, ◌*◌, ◌/◌, ◌%◌, ◌^◌, ◌≤◌, ◌<◌, leb, ltb, length, set}
+-- The bytes of lines: how many they are, and the numbers of a stop. Assumes nothing.
+use Rattle.std.specs.Prelude.{◌≡◌, refl, ◌≢◌, Bool, true, false, cond, List, [], ◌∷◌, ◌++◌, map, ℕ, zero, suc, ◌+◌, ◌-◌, ◌*◌, ◌/◌, ◌%◌, ◌^◌, ◌≤◌, ◌<◌, leb, ltb, length, set}
 use Rattle.std.proofs.Common.{ap, ◌∙◌, append_assoc, arith, pow-suc, ltb-false, lt-ltb, le-ltb, leb-true, leb-false, length-append}
 use Rattle.paper.specs.Basics.{concat}
+use Rattle.paper.specs.Codes.{number_of}
+use Rattle.paper.specs.declared.Refusal.{Refusal}
+use Rattle.paper.specs.declared.Refusal.TheVariants.{Broken, Schema, Ambiguous, Shape, Room, Place, Name, Attributes, Content, Root, IdTwice, NoId, Table, DtdText, Counts, NotCompared}
 use Rattle.io.specs.Digits.{last_digits as io·digits, IsDigitCount}
 use Rattle.lines.specs.Put.{Put, put_length, put_both, put_as, put_one}
 use Rattle.paper.specs.Program.{Line, halt, line, digits, decimal, line_bytes}
@@ -23,6 +26,12 @@ field n end = shown n ++ (end ∷ [])
 -- the most bytes of a line
 abbrev pub line_room : ℕ
 line_room = 49
+
+-- the numbers with which the program stops
+pub record Stop (n : ℕ) : Type 0 where
+  pub low : 1 ≤ n
+  pub high : n ≤ 5
+  pub not_four : n ≡ 4 → ⊥
 
 -- ---- decimal digits
 
@@ -174,16 +183,30 @@ line_put k n p u f g h i =
 
 -- ---- a stop
 
-abbrev pub stop_text : List ℕ
-stop_text = 115 ∷ 116 ∷ 111 ∷ 112 ∷ 32 ∷ []
+-- the fixed bytes of a stop
+pub stop_put : {s t : List ℕ} {at number r : ℕ} (k : ℕ) → ltb k 10 ≡ true → number ≡ k
+    → Put s at (115 ∷ 116 ∷ 111 ∷ 112 ∷ 32 ∷ (48 + k) ∷ 10 ∷ []) r t → Put s at (line_of (halt number)) r t
+unfolding line_of
+stop_put k b e p = put_as p (rw (e, b))
 
--- a number has room behind the text
-pub stop_room : {s t : List ℕ} {at a : ℕ} (n : ℕ) → at + line_room ≤ length s → n < 4294967296 → Put s at stop_text a t → a + length (shown n) < length t
-stop_room n h few p = omega (arith, shown_few 9 n (omega arith), p.place, put_length p)
-
-pub stop_put : {s t u : List ℕ} {at a b : ℕ} (n : ℕ) → Put s at stop_text a t → Put t a (field n 10) b u → Put s at (line_of (halt n)) b u
-unfolding line_of shown
-stop_put n p q = put_as (put_both p q) refl
+-- of the refusals with which the program stops, that which is none of the others
+pub last_stop : (e : Refusal) → Stop (number_of e) → e ≢ Broken → e ≢ Schema → e ≢ Ambiguous → number_of e ≡ 5
+last_stop Broken s a b c = absurd (a refl)
+last_stop Schema s a b c = absurd (b refl)
+last_stop Ambiguous s a b c = absurd (c refl)
+last_stop Shape s a b c = absurd (s.not_four refl)
+last_stop Room s a b c = refl
+last_stop Place s a b c = absurd (omega (arith, s.high))
+last_stop Name s a b c = absurd (omega (arith, s.high))
+last_stop Attributes s a b c = absurd (omega (arith, s.high))
+last_stop Content s a b c = absurd (omega (arith, s.high))
+last_stop Root s a b c = absurd (omega (arith, s.high))
+last_stop IdTwice s a b c = absurd (omega (arith, s.high))
+last_stop NoId s a b c = absurd (omega (arith, s.high))
+last_stop Table s a b c = absurd (omega (arith, s.high))
+last_stop DtdText s a b c = absurd (omega (arith, s.high))
+last_stop Counts s a b c = absurd (omega (arith, s.high))
+last_stop NotCompared s a b c = absurd (omega (arith, s.high))
 
 -- ---- lines in a row
 

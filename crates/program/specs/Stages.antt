@@ -1,5 +1,5 @@
 -- Schema, document and check, in turn. Assumes nothing.
-use Rattle.std.specs.Prelude.{◌≡◌, Bool, true, false, not, ◌&&◌, ◌||◌, ℕ, zero, suc, ◌≤◌, min, T, eqb, leb, ℤ, length, take}
+use Rattle.std.specs.Prelude.{◌≡◌, Bool, true, false, not, ◌&&◌, ◌||◌, ℕ, ◌≤◌, min, T, eqb, leb, ℤ, length, take}
 use Rattle.std.proofs.Math.Path.{refl, sym, ap}
 use Rattle.std.proofs.Common.{◌∙◌, arith}
 use Rattle.std.proofs.Math.Bool.{cond}
@@ -27,7 +27,7 @@ use Rattle.answer_laws.specs.ReaderWriter.{read_answers}
 use Rattle.answer_laws.specs.Translator.{Stops}
 use Rattle.answer_laws.proofs.Translator.{schema_stops}
 use Rattle.lines.specs.Put.{Put, put_both, put_as}
-use Rattle.lines.specs.Lines.{line_of, text, text_none, text_more}
+use Rattle.lines.specs.Lines.{line_of, text, text_none, text_more, Stop}
 
 -- a file that was opened, or not
 abbrev pub given : Bool → List ℕ → Option (List ℕ)
@@ -90,9 +90,21 @@ refusal_some DtdText z = absurd (omega arith)
 refusal_some Counts z = absurd (omega arith)
 refusal_some NotCompared z = absurd (omega arith)
 
+reader_stop : (n : ℕ) → T (elem n (0 ∷ 1 ∷ 5 ∷ [])) → (n ≡ 0 → ⊥) → Stop n
+reader_stop n t z = go (eqb n 0) (eqb n 1) (eqb n 5) refl refl refl t
+  where
+    go : (a b c : Bool) → eqb n 0 ≡ a → eqb n 1 ≡ b → eqb n 5 ≡ c → T (a || (b || (c || false))) → Stop n
+    go true b c p q r t = absurd (z (eqb-true n 0 p))
+    go false true c p q r t = let e : n ≡ 1 = eqb-true n 1 q in record { low = omega arith; high = omega arith; not_four = λ y. omega arith }
+    go false false true p q r t = let e : n ≡ 5 = eqb-true n 5 r in record { low = omega arith; high = omega arith; not_four = λ y. omega arith }
+    go false false false p q r t = absurd t
+
 module _ (table file edits : List ℕ) {c : Count} {tokens : List ℕ} (e : outcome c tokens ≡ read file places) where
   abbrev after_document : List ℕ
   after_document = text (document_lines (of_table table) (reading file places) edits)
+
+  pub document_stop : (c.number ≡ 0 → ⊥) → Stop c.number
+  document_stop z = reader_stop c.number (read_answers file places (outcome c tokens) e).one_of z
 
   document_ends : {out after : List ℕ} {next : ℕ} → (c.number ≡ 0 → ⊥) → Put out 0 (line_of (halt c.number)) next after → Put out 0 after_document next after
   unfolding read
@@ -114,6 +126,9 @@ module _ (table file edits : List ℕ) {c : Count} {tokens : List ℕ} (e : outc
           absurd (omega (arith, tokens_refused (min (length places) most_tokens) file k s))
       go (made l) s f = ap (λ (o : Counted). check_lines (of_table table) o.buffer o.count (checking (of_table table) o.buffer o.count) edits) f
 
+pub document_halts : (table file edits : List ℕ) {tokens : List ℕ} (e : Refusal) → outcome (answer (number_of e) 0) tokens ≡ read file places → Stop (number_of e)
+document_halts table file edits {tokens} e f = document_stop table file edits {c = answer (number_of e) 0} {tokens = tokens} f (refusal_some e)
+
 module _ (table file edits : List ℕ) {tokens out after : List ℕ} {next : ℕ} where
   pub document_fault : (e : Refusal) → outcome (answer (number_of e) 0) tokens ≡ read file places → Put out 0 (line_of (halt (number_of e))) next after
       → Put out 0 (text (document_lines (of_table table) (reading file places) edits)) next after
@@ -126,9 +141,14 @@ module _ (table file edits : List ℕ) {tokens out after : List ℕ} {next : ℕ
 
 -- ---- the schema
 
-translator_some : (n : ℕ) → T (elem n (1 ∷ 2 ∷ 3 ∷ [])) → 1 ≤ n
-translator_some zero t = absurd t
-translator_some (suc n) t = omega arith
+translator_stop : (n : ℕ) → T (elem n (1 ∷ 2 ∷ 3 ∷ [])) → Stop n
+translator_stop n t = go (eqb n 1) (eqb n 2) (eqb n 3) refl refl refl t
+  where
+    go : (a b c : Bool) → eqb n 1 ≡ a → eqb n 2 ≡ b → eqb n 3 ≡ c → T (a || (b || (c || false))) → Stop n
+    go true b c p q r t = let e : n ≡ 1 = eqb-true n 1 p in record { low = omega arith; high = omega arith; not_four = λ y. omega arith }
+    go false true c p q r t = let e : n ≡ 2 = eqb-true n 2 q in record { low = omega arith; high = omega arith; not_four = λ y. omega arith }
+    go false false true p q r t = let e : n ≡ 3 = eqb-true n 3 r in record { low = omega arith; high = omega arith; not_four = λ y. omega arith }
+    go false false false p q r t = absurd t
 
 -- what comes of a table of the right length
 module _ (file lent : List ℕ) (long : length lent ≡ table_length) {n : ℕ} {table : List ℕ} (e : (n, table) ≡ translate file lent) where
@@ -143,6 +163,13 @@ module _ (file lent : List ℕ) (long : length lent ≡ table_length) {n : ℕ} 
         go : (o : Parsed Schema) → (n, table) ≡ translated o lent → o ≡ stop n
         go (stop k) f = ap stop (sym (ap (λ (x : ℕ × List ℕ). x.0) f))
         go (ok s r) f = absurd (z (ap (λ (x : ℕ × List ℕ). x.0) f))
+
+    pub schema_stop : Stop n
+    schema_stop = go (schema_of file) stopped (schema_stops file)
+      where
+        go : (o : Parsed Schema) → o ≡ stop n → Stops o → Stop n
+        go (stop k) f t = let d : k ≡ n = cc in rw d at (translator_stop k t)
+        go (ok s r) f t = let y : ◌≡◌ {A = ℕ} 0 1 = cc in absurd (omega arith)
 
     pub schema_ends : (doc edits : List ℕ) {out after : List ℕ} {next : ℕ} → Put out 0 (line_of (halt n)) next after → Put out 0 (text (schema_lines (schema_of file) doc edits)) next after
     schema_ends doc edits p = put_as p (line_alone (halt n) ∙ ap text (rw stopped))
@@ -161,7 +188,8 @@ module _ (file lent : List ℕ) (long : length lent ≡ table_length) {n : ℕ} 
         go : (o : Parsed Schema) → schema_of file ≡ o → (n, table) ≡ translated o lent → Stops o → Read
         go (stop k) s f t =
             let d : n ≡ k = ap (λ (x : ℕ × List ℕ). x.0) f in
-            absurd (omega (arith, translator_some k t))
+            let l = translator_stop k t in
+            absurd (omega (arith, l.low))
         go (ok a r) s f t = record { schema = a; rest = r; reads = s; table_is = ap (λ (x : ℕ × List ℕ). x.1) f }
 
     pub schema_proper : proper table ≡ true

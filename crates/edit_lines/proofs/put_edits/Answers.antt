@@ -2,7 +2,7 @@
 use mathlib.Core.Path.{◌∙◌}
 use native.Mathlib.Omega.{arith}
 use borrow.Author.Rules.{rules}
-use Rattle.edit_lines.specs.Run.{go_none, go_end, go_room, go_stop, go_less, go_more}
+use Rattle.edit_lines.specs.Run.{go_none, go_end, go_room, go_stop, go_halt, go_less, go_more}
 use Rattle.edit_lines.proofs.put_edits.Goals as goal
 
 pub loop-from-init : goal.loop-from-init
@@ -13,7 +13,10 @@ pub edit_at-requires : goal.edit_at-requires
 edit_at-requires c = c.loop-from.invariant.places
 
 pub put_stop-requires : goal.put_stop-requires
-put_stop-requires c = (go_room _ _ _ _ _ _ _ c.loop-from.invariant c.loop-from-test.true c.requires.1 c.requires.2).1
+put_stop-requires c =
+    let l = c.loop-from.invariant in
+    let t = c.loop-from-test.true in
+    (go_halt _ _ _ _ _ _ _ l t c.in-Err.ensures, (go_room _ _ _ _ _ _ _ l t c.requires.1 c.requires.2).1)
 
 pub returns-in-Err : goal.returns-in-Err
 returns-in-Err c = go_stop _ _ _ _ _ _ _ c.loop-from.invariant c.loop-from-test.true c.in-Err.ensures c.put_stop.ensures

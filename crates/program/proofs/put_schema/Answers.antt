@@ -2,11 +2,12 @@
 use native.Mathlib.Omega.{arith}
 use mathlib.Core.Path.{refl}
 use borrow.Author.Rules.{rules}
-use Rattle.program.specs.Stages.{refusal_some, schema_ends, schema_proper, schema_goes}
+use Rattle.program.specs.Stages.{refusal_some, schema_stop, schema_ends, schema_proper, schema_goes}
 use Rattle.program.proofs.put_schema.Goals as goal
 
 pub put_stop-requires : goal.put_stop-requires
-put_stop-requires c = omega (arith, c.requires.1)
+put_stop-requires c =
+    (schema_stop c.args.schema.now _ (search rules) c.in-Err.ensures (refusal_some _), omega (arith, c.requires.1))
 
 pub returns-in-Err : goal.returns-in-Err
 returns-in-Err c =
