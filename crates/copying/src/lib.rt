@@ -1,6 +1,6 @@
 // The copy from one slice to another, of bytes, tokens or words.
 //
-// Assumes nothing.
+// The loop becomes memcpy when it is compiled, where `copy_from_slice` becomes memmove, which a host would have to bring. Assumes nothing.
 #![tactic(auto)]
 
 ghost use Rattle.std.specs.Prelude.{◌≡◌, ◌+◌, ◌≤◌, length, drop};
@@ -11,5 +11,7 @@ pub fn copy<T: Copy>(dst: &mut [T], at: usize, src: &[T], from: usize, n: usize)
     requires { (at + n ≤ length dst.old) × (from + n ≤ length src.now) }
     ensures { dst.new ≡ paste dst.old at (drop from src.now) n }
 {
-    dst[at..at + n].copy_from_slice(&src[from..from + n]);
+    for i in 0..n {
+        dst[at + i] = src[from + i];
+    }
 }
