@@ -1,8 +1,8 @@
 -- A name by its bytes: whether it is the one that begins a text. Assumes nothing.
-use Rattle.std.specs.Prelude.{◌≡◌, refl, ◌≢◌, Bool, true, false, cond, not, ◌&&◌, Decides, Option, None, Some, unwrap_or, List, [], ◌∷◌, ℕ, suc, ◌+◌, ◌≤◌, ◌<◌, eqb, ltb, length, take, drop, reverse}
+use Rattle.std.specs.Prelude.{◌≡◌, refl, ◌≢◌, Bool, true, false, cond, not, ◌&&◌, Option, None, Some, unwrap_or, List, [], ◌∷◌, ℕ, suc, ◌+◌, ◌-◌, ◌≤◌, ◌<◌, eqb, ltb, length, take, drop, get_or}
 use Rattle.std.specs.List.{prefix_len, position_or_len}
-use Rattle.std.proofs.Common.{sym, ap, ◌∙◌, arith, one-add, eqb-true, eq-eqb, ne_eqb, ltb-false}
-use Rattle.std.proofs.lemmas.List.{reverse-reverse}
+use Rattle.std.proofs.Common.{sym, ap, ap₂, ◌∙◌, arith, one-add, eqb-true, eq-eqb, ne_eqb, ltb-false, drop_of_length-le, drop-cons}
+use Rattle.std.proofs.lemmas.List.{length-take-le, get_or-take}
 use Rattle.paper.specs.Dtd.Letters.{is_more, begins, run, same}
 use Rattle.paper.specs.Dtd.Numbering.{number_in}
 use Rattle.dtd_names.specs.Named.{name_at, names_at}
@@ -87,15 +87,38 @@ spelled_other_bytes (c ∷ n) (b ∷ s) h e = by (eqb c b) refl (spelled_other_b
     by true p f = f (λ q. e (let r = eqb-true c b p in cc))
     by false p f = refl
 
--- r: whether the bytes are the same, from the last to the first
-module _ (n s : List ℕ) (r : Bool) (d : Decides r (reverse n ≡ reverse (take (length n) s))) where
-  pub spelled_if : (m : Bool) → r ≡ true → m ≡ begins is_more (drop (length n) s) → not m ≡ spelled n s
-  spelled_if m p q =
-      let e : n ≡ take (length n) s = sym (reverse-reverse n) ∙ ap reverse (d.0 p) ∙ reverse-reverse (take (length n) s) in
-      ap not q ∙ sym (spelled_same_bytes n s e)
+-- from the last to the first: the bytes from i on are the same
+pub record Alike (n s : List ℕ) (i : ℕ) : Type 0 where
+  pub within : i ≤ length n
+  pub same : drop i n ≡ drop i (take (length n) s)
 
-  pub spelled_not : length n ≤ length s → r ≡ false → r ≡ spelled n s
-  spelled_not h p = p ∙ spelled_other_bytes n s h (λ e. clash (d.1 (ap reverse e)) p)
+module _ (n s : List ℕ) (h : length n ≤ length s) where
+  long : length (take (length n) s) ≡ length n
+  long = length-take-le (length n) s h
+
+  pub alike_begin : Alike n s (length n)
+  alike_begin = record { within = omega arith; same = drop_of_length-le n (omega arith) ∙ sym (drop_of_length-le (take (length n) s) (omega (arith, long))) }
+
+  module _ {i : ℕ} (a : Alike n s i) where
+    module _ (l : 0 < i) where
+      here : get_or (take (length n) s) (i - 1) 0 ≡ get_or s (i - 1) 0
+      here = get_or-take (length n) s (i - 1) 0 (omega (arith, a.within))
+
+      pub alike_turn : get_or n (i - 1) 0 ≡ get_or s (i - 1) 0 → Alike n s (i - 1)
+      alike_turn e =
+          let z : suc (i - 1) ≡ i = omega arith in
+          record {
+            within = omega (arith, a.within);
+            same = drop-cons n (i - 1) 0 (omega (arith, a.within))
+                ∙ ap₂ (λ b t. b ∷ t) (e ∙ sym here) (rw z a.same)
+                ∙ sym (drop-cons (take (length n) s) (i - 1) 0 (omega (arith, long, a.within)));
+          }
+
+      pub alike_not : get_or n (i - 1) 0 ≢ get_or s (i - 1) 0 → false ≡ spelled n s
+      alike_not f = spelled_other_bytes n s h (λ e. f (ap (λ t. get_or t (i - 1) 0) e ∙ here))
+
+    pub alike_all : i ≤ 0 → {m : Bool} → m ≡ begins is_more (drop (length n) s) → not m ≡ spelled n s
+    alike_all z q = let e : i ≡ 0 = omega arith in ap not q ∙ sym (spelled_same_bytes n s (rw e at a.same))
 
 -- ---- a name in a list of places
 

@@ -43,12 +43,12 @@ fn is_name(text: &[u8], at: usize, name: &[u8]) -> bool
     if rest.len() < name.len() {
         return false;
     }
-    let front = &rest[..name.len()];
-    name.iter()
-        .rev()
-        .zip(front.iter().rev())
-        .all(|(b, c)| b == c)
-        && !more_at(rest, name.len())
+    for i in (0..name.len()).rev() {
+        if name[i] != rest[i] {
+            return false;
+        }
+    }
+    !more_at(rest, name.len())
 }
 
 // Whether the names at two places are the same.

@@ -1,13 +1,12 @@
 -- A word at a place: how far the text goes along with it; and what a reader came to. Assumes nothing.
-use Rattle.std.specs.Prelude.{◌≡◌, refl, ◌≢◌, Bool, true, false, cond, Result, Ok, Err, List, [], ◌∷◌, ℕ, suc, ◌+◌, ◌≤◌, eqb, zip, length, drop}
-use Rattle.std.specs.List.{prefix_len}
-use Rattle.std.proofs.Common.{sym, subst, ◌∙◌, arith, one-add, eqb-true, eq-eqb, ne_eqb, length-drop, drop-drop}
-use Rattle.std.proofs.lemmas.Bool.{eqb-false}
+use Rattle.std.specs.Prelude.{◌≡◌, refl, Bool, true, false, Result, Ok, Err, List, [], ◌∷◌, ℕ, suc, ◌+◌, ◌≤◌, ◌<◌, eqb, length, drop, get_or}
+use Rattle.std.proofs.Common.{sym, ap, subst, ◌∙◌, arith, add-one, drop_of_length-le, drop-cons}
 use Rattle.paper.specs.declared.Refusal.TheVariants.{DtdText}
 use Rattle.paper.specs.Codes.{number_of}
-use Rattle.paper.specs.Dtd.Readers.{Read, stop, ok, Reader, onward, literal, outside}
+use Rattle.paper.specs.Dtd.Letters.{begins}
+use Rattle.paper.specs.Dtd.Readers.{Read, stop, ok, Reader, onward, literal}
 use Rattle.dtd_words.specs.declared.Fault.{Fault}
-use Rattle.dtd_words.specs.Places.{At}
+use Rattle.dtd_words.specs.Places.{At, begins_inside}
 
 -- What a reader came to: a value for what was read, as P says, or the refusal and the place of what is at fault.
 abbrev pub CameTo : {A V : Type 0} → (V → A → List ℕ → Type 0) → List ℕ → Result V Fault → Read A → Type 0
@@ -45,61 +44,41 @@ module _ {A B W : Type 0} (Q : W → B → List ℕ → Type 0) (text : List ℕ
 
 -- ---- a word
 
-abbrev pub alike : ℕ × ℕ → Bool
-alike p = eqb p.0 p.1
+-- the word from `at` on goes on with its byte i, at j
+pub record Spelt (text word : List ℕ) (at i j : ℕ) : Type 0 where
+  pub inside : j ≤ length text
+  pub same : literal word (drop at text) ≡ literal (drop i word) (drop j text)
 
--- how many bytes of a text are those of the word
-abbrev pub spelt : List ℕ → List ℕ → ℕ
-spelt s word = prefix_len alike (zip s word)
+module _ (text word : List ℕ) (at : ℕ) where
+  pub begun : at ≤ length text → Spelt text word at 0 at
+  begun h = record { inside = h; same = refl }
 
-spelt_short : (s word : List ℕ) → spelt s word ≤ length s
-spelt_short [] word = omega arith
-spelt_short (b ∷ s) [] = omega arith
-spelt_short (b ∷ s) (c ∷ word) = by (eqb b c) (spelt_short s word)
-  where
-    by : (x : Bool) → spelt s word ≤ length s → cond x (1 + spelt s word) 0 ≤ suc (length s)
-    by true h = omega arith
-    by false h = omega arith
+  module _ {i j : ℕ} (s : Spelt text word at i j) where
+    -- x: whether byte i stands at j
+    module _ {x : Bool} (h : i < length word) (e : x ≡ begins (eqb (get_or word i 0)) (drop j text)) where
+      next : drop i word ≡ get_or word i 0 ∷ drop (i + 1) word
+      next = drop-cons word i 0 h ∙ ap (λ k. get_or word i 0 ∷ drop k word) (sym (add-one i))
 
--- all of them, or not
-spelt_whole : (s word : List ℕ) → spelt s word ≡ length word → literal word s ≡ ok tt (drop (spelt s word) s)
-spelt_whole s [] e = by s
-  where
-    by : (s : List ℕ) → literal [] s ≡ ok tt (drop (spelt s []) s)
-    by [] = refl
-    by (b ∷ s) = refl
-spelt_whole [] (c ∷ word) e = absurd (omega arith)
-spelt_whole (b ∷ s) (c ∷ word) e = by (eqb b c) refl e (spelt_whole s word)
-  where
-    by : (x : Bool) → eqb b c ≡ x → cond x (1 + spelt s word) 0 ≡ suc (length word) → (spelt s word ≡ length word → literal word s ≡ ok tt (drop (spelt s word) s))
-        → literal (c ∷ word) (b ∷ s) ≡ ok tt (drop (cond x (1 + spelt s word) 0) (b ∷ s))
-    by true p e f = let q = eqb-true b c p in rw (eq-eqb c b (sym q), one-add (spelt s word)) (f (omega arith))
-    by false p e f = absurd (omega arith)
+      pub goes_on : x ≡ true → Spelt text word at (i + 1) (j + 1)
+      goes_on p =
+          let k = begins_inside (eqb (get_or word i 0)) text j (sym e ∙ p) in
+          record { inside = omega arith; same = s.same ∙ rw next (by (drop j text) (drop-cons text j 0 k) (sym e ∙ p)) }
+        where
+          by : (l : List ℕ) → l ≡ get_or text j 0 ∷ drop (suc j) text → begins (eqb (get_or word i 0)) l ≡ true
+              → literal (get_or word i 0 ∷ drop (i + 1) word) l ≡ literal (drop (i + 1) word) (drop (j + 1) text)
+          by l q p = rw (q, add-one j) (rw (rw q at p))
 
-spelt_part : (s word : List ℕ) → spelt s word ≢ length word → literal word s ≡ stop outside (drop (spelt s word) s)
-spelt_part s [] e = absurd (e (by s))
-  where
-    by : (s : List ℕ) → spelt s [] ≡ 0
-    by [] = refl
-    by (b ∷ s) = refl
-spelt_part [] (c ∷ word) e = refl
-spelt_part (b ∷ s) (c ∷ word) e = by (eqb b c) refl e (spelt_part s word)
-  where
-    by : (x : Bool) → eqb b c ≡ x → cond x (1 + spelt s word) 0 ≢ suc (length word) → (spelt s word ≢ length word → literal word s ≡ stop outside (drop (spelt s word) s))
-        → literal (c ∷ word) (b ∷ s) ≡ stop outside (drop (cond x (1 + spelt s word) 0) (b ∷ s))
-    by true p e f = let q = eqb-true b c p in rw (eq-eqb c b (sym q), one-add (spelt s word)) (f (λ z. e (omega arith)))
-    by false p e f = rw (ne_eqb c b (λ z. eqb-false b c p (sym z)))
+      pub differs : x ≡ false → Came text (Err (record { refusal = DtdText; at = j })) (literal word (drop at text))
+      differs p = rw s.same (rw next (by (drop j text) refl (sym e ∙ p)))
+        where
+          by : (l : List ℕ) → drop j text ≡ l → begins (eqb (get_or word i 0)) l ≡ false
+              → Came text (Err (record { refusal = DtdText; at = j })) (literal (get_or word i 0 ∷ drop (i + 1) word) l)
+          by [] q p = (refl, record { inside = s.inside; rest = q })
+          by (b ∷ l) q p = rw p (refl, record { inside = s.inside; rest = q })
 
-module _ (text word : List ℕ) (at n : ℕ) (h : at ≤ length text) (e : n ≡ spelt (drop at text) word) where
-  placed : At text (at + n) (drop (spelt (drop at text) word) (drop at text))
-  placed =
-      record {
-        inside = omega (arith, spelt_short (drop at text) word, length-drop at text);
-        rest = sym (drop-drop n at text) ∙ rw e;
-      }
-
-  pub whole : n ≡ length word → Came text (Ok (at + n)) (literal word (drop at text))
-  whole p = rw (spelt_whole (drop at text) word (sym e ∙ p)) placed
-
-  pub broken : n ≢ length word → Came text (Err (record { refusal = DtdText; at = at + n })) (literal word (drop at text))
-  broken p = rw (spelt_part (drop at text) word (λ z. p (e ∙ z))) (refl, placed)
+    pub whole : length word ≤ i → Came text (Ok j) (literal word (drop at text))
+    whole h = rw (s.same, drop_of_length-le word h) (by (drop j text) refl)
+      where
+        by : (l : List ℕ) → drop j text ≡ l → Came text (Ok j) (literal [] l)
+        by [] q = record { inside = s.inside; rest = q }
+        by (b ∷ l) q = record { inside = s.inside; rest = q }

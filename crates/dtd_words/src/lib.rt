@@ -93,17 +93,15 @@ pub fn word_at(text: &[u8], at: usize, word: &[u8]) -> Result<usize, Fault>
     requires { at ≤ length text.now }
     ensures { Came text.now result (literal word.now (drop at text.now)) }
 {
-    let same = text[at..]
-        .iter()
-        .zip(word)
-        .take_while(|(b, c)| b == c)
-        .count();
-    if same == word.len() {
-        Ok(at + same)
-    } else {
-        Err(Fault {
-            refusal: Refusal::DtdText,
-            at: at + same,
-        })
+    let mut end = at;
+    for byte in word {
+        if !byte_at(text, end, *byte) {
+            return Err(Fault {
+                refusal: Refusal::DtdText,
+                at: end,
+            });
+        }
+        end += 1;
     }
+    Ok(end)
 }
