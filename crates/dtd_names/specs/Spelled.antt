@@ -1,11 +1,9 @@
 -- A name by its bytes: whether it is the one that begins a text. Assumes nothing.
-use Rattle.std.specs.Prelude.{◌≡◌, refl, ◌≢◌, Bool, true, false, cond, not, ◌&&◌, Option, None, Some, unwrap_or, List, [], ◌∷◌, ℕ, suc, ◌+◌, ◌-◌, ◌≤◌, ◌<◌, eqb, ltb, length, take, drop, get_or}
-use Rattle.std.specs.List.{prefix_len, position_or_len}
-use Rattle.std.proofs.Common.{sym, ap, ap₂, ◌∙◌, arith, one-add, eqb-true, eq-eqb, ne_eqb, ltb-false, drop_of_length-le, drop-cons}
-use Rattle.std.proofs.lemmas.List.{length-take-le, get_or-take}
+use Rattle.std.specs.Prelude.{◌≡◌, refl, ◌≢◌, Bool, true, false, cond, not, ◌&&◌, Decides, List, [], ◌∷◌, ℕ, suc, ◌+◌, ◌≤◌, ◌<◌, eqb, length, take, drop, reverse}
+use Rattle.std.specs.List.{prefix_len}
+use Rattle.std.proofs.Common.{sym, ap, ◌∙◌, arith, one-add, eqb-true, eq-eqb, ne_eqb, length-drop, drop_of_length-le}
+use Rattle.std.proofs.lemmas.List.{reverse-reverse}
 use Rattle.paper.specs.Dtd.Letters.{is_more, begins, run, same}
-use Rattle.paper.specs.Dtd.Numbering.{number_in}
-use Rattle.dtd_names.specs.Named.{name_at, names_at}
 use Rattle.basic_laws.specs.Bools.{clash}
 
 -- those bytes, and no character of a name behind them
@@ -69,6 +67,11 @@ spelled_short (c ∷ n) (b ∷ s) h = by (eqb c b) (spelled_short n s (omega ari
     by true e = e
     by false e = refl
 
+-- from a place on, fewer bytes than the name has: only a name of none is there
+pub spelled_beyond : (n text : List ℕ) (at : ℕ) → length text < at + length n → eqb (length n) 0 ≡ spelled n (drop at text)
+spelled_beyond [] text at h = let e : drop at text ≡ [] = drop_of_length-le text {i = at} (omega arith) in rw e refl
+spelled_beyond (c ∷ n) text at h = ne_eqb (length (c ∷ n)) 0 (λ z. omega (arith, z)) ∙ spelled_short (c ∷ n) (drop at text) (omega (arith, length-drop at text))
+
 -- the same bytes, and what is behind them; other bytes
 pub spelled_same_bytes : (n s : List ℕ) → n ≡ take (length n) s → spelled n s ≡ not (begins is_more (drop (length n) s))
 spelled_same_bytes [] s e = refl
@@ -87,68 +90,12 @@ spelled_other_bytes (c ∷ n) (b ∷ s) h e = by (eqb c b) refl (spelled_other_b
     by true p f = f (λ q. e (let r = eqb-true c b p in cc))
     by false p f = refl
 
--- from the last to the first: the bytes from i on are the same
-pub record Alike (n s : List ℕ) (i : ℕ) : Type 0 where
-  pub within : i ≤ length n
-  pub same : drop i n ≡ drop i (take (length n) s)
+-- r: whether the bytes are the same, from the last to the first
+module _ (n s : List ℕ) (r : Bool) (d : Decides r (reverse n ≡ reverse (take (length n) s))) where
+  pub spelled_if : (m : Bool) → r ≡ true → m ≡ begins is_more (drop (length n) s) → not m ≡ spelled n s
+  spelled_if m p q =
+      let e : n ≡ take (length n) s = sym (reverse-reverse n) ∙ ap reverse (d.0 p) ∙ reverse-reverse (take (length n) s) in
+      ap not q ∙ sym (spelled_same_bytes n s e)
 
-module _ (n s : List ℕ) (h : length n ≤ length s) where
-  long : length (take (length n) s) ≡ length n
-  long = length-take-le (length n) s h
-
-  pub alike_begin : Alike n s (length n)
-  alike_begin = record { within = omega arith; same = drop_of_length-le n (omega arith) ∙ sym (drop_of_length-le (take (length n) s) (omega (arith, long))) }
-
-  module _ {i : ℕ} (a : Alike n s i) where
-    module _ (l : 0 < i) where
-      here : get_or (take (length n) s) (i - 1) 0 ≡ get_or s (i - 1) 0
-      here = get_or-take (length n) s (i - 1) 0 (omega (arith, a.within))
-
-      pub alike_turn : get_or n (i - 1) 0 ≡ get_or s (i - 1) 0 → Alike n s (i - 1)
-      alike_turn e =
-          let z : suc (i - 1) ≡ i = omega arith in
-          record {
-            within = omega (arith, a.within);
-            same = drop-cons n (i - 1) 0 (omega (arith, a.within))
-                ∙ ap₂ (λ b t. b ∷ t) (e ∙ sym here) (rw z a.same)
-                ∙ sym (drop-cons (take (length n) s) (i - 1) 0 (omega (arith, long, a.within)));
-          }
-
-      pub alike_not : get_or n (i - 1) 0 ≢ get_or s (i - 1) 0 → false ≡ spelled n s
-      alike_not f = spelled_other_bytes n s h (λ e. f (ap (λ t. get_or t (i - 1) 0) e ∙ here))
-
-    pub alike_all : i ≤ 0 → {m : Bool} → m ≡ begins is_more (drop (length n) s) → not m ≡ spelled n s
-    alike_all z q = let e : i ≡ 0 = omega arith in ap not q ∙ sym (spelled_same_bytes n s (rw e at a.same))
-
--- ---- a name in a list of places
-
--- r: what the search for the name at `at` came to
-module _ (text : List ℕ) (at : ℕ) where
-  abbrev pub named : ℕ → Bool
-  named a = spelled (name_at text at) (drop a text)
-
-  found_at : (names : List ℕ) → position_or_len named names ≡ number_in (names_at text names) (name_at text at)
-  found_at [] = refl
-  found_at (a ∷ names) = rw (spelled_same (drop at text) (drop a text)) (by (same (name_at text at) (name_at text a)) (found_at names))
-    where
-      by : (x : Bool) → position_or_len named names ≡ number_in (names_at text names) (name_at text at)
-          → cond (not x) (1 + position_or_len named names) 0 ≡ cond x 0 (suc (number_in (names_at text names) (name_at text at)))
-      by true e = refl
-      by false e = omega arith
-
-  within : (names : List ℕ) → position_or_len named names ≤ length names
-  within [] = omega arith
-  within (a ∷ names) = by (named a) (within names)
-    where
-      by : (x : Bool) → position_or_len named names ≤ length names → cond (not x) (1 + position_or_len named names) 0 ≤ suc (length names)
-      by true h = omega arith
-      by false h = omega arith
-
-  pub found : (names : List ℕ) (r : Option ℕ) → r ≡ cond (ltb (position_or_len named names) (length names)) (Some (position_or_len named names)) None
-      → unwrap_or r (length names) ≡ number_in (names_at text names) (name_at text at)
-  found names r e = rw e (by (ltb (position_or_len named names) (length names)) refl) ∙ found_at names
-    where
-      by : (x : Bool) → ltb (position_or_len named names) (length names) ≡ x
-          → unwrap_or (cond x (Some (position_or_len named names)) None) (length names) ≡ position_or_len named names
-      by true p = refl
-      by false p = let h = ltb-false (position_or_len named names) (length names) p in let w = within names in omega arith
+  pub spelled_not : length n ≤ length s → r ≡ false → r ≡ spelled n s
+  spelled_not h p = p ∙ spelled_other_bytes n s h (λ e. clash (d.1 (ap reverse e)) p)

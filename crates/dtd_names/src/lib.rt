@@ -39,16 +39,17 @@ pub fn name_length(text: &[u8], at: usize) -> usize
 fn is_name(text: &[u8], at: usize, name: &[u8]) -> bool
     ensures { result ≡ spelled name.now (drop at text.now) }
 {
-    let rest = rest_of(text, at);
-    if rest.len() < name.len() {
-        return false;
+    let n = name.len();
+    if text.len() < n || text.len() - n < at {
+        return n == 0;
     }
-    for i in (0..name.len()).rev() {
-        if name[i] != rest[i] {
-            return false;
-        }
-    }
-    !more_at(rest, name.len())
+    let rest = &text[at..];
+    let front = &rest[..n];
+    name.iter()
+        .rev()
+        .zip(front.iter().rev())
+        .all(|(b, c)| b == c)
+        && !more_at(rest, n)
 }
 
 // Whether the names at two places are the same.
@@ -63,10 +64,12 @@ pub fn find_name(text: &[u8], names: &[usize], at: usize) -> usize
     ensures { result ≡ number_in (names_at text.now names.now) (name_at text.now at) }
 {
     let name = name_of(text, at);
-    names
-        .iter()
-        .position(|other| is_name(text, *other, name))
-        .unwrap_or(names.len())
+    for i in 0..names.len() {
+        if is_name(text, names[i], name) {
+            return i;
+        }
+    }
+    names.len()
 }
 
 // Whether a name may be mentioned.
