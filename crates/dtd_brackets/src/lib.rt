@@ -46,15 +46,30 @@ pub fn digit_of(separator: Option<Separator>) -> u64
     }
 }
 
-// The separator of a bracket, looked at from behind: its last one decides.
-fn looked_at(b: u8, level: usize, now: Option<Separator>) -> Option<Separator>
-    ensures { digit (joint result) ≡ cond (eqb level 0 && eqb (digit (joint now)) 1) (digit (joint_of b)) (digit (joint now)) }
+// The digit of a separator; 1 for any other byte.
+fn digit_of_byte(b: u8) -> u64
+    ensures { result ≡ digit (joint_of b) }
 {
-    if level == 0 && now.is_none() {
-        separator_of(b)
-    } else {
-        now
+    if b == b',' {
+        return 2;
     }
+    if b == b'|' {
+        return 3;
+    }
+    1
+}
+
+// The digit of a bracket, looked at from behind: its last separator decides.
+fn looked_at(b: u8, level: usize, now: u64) -> u64
+    ensures { result ≡ cond (eqb level 0 && eqb now 1) (digit (joint_of b)) now }
+{
+    if level != 0 {
+        return now;
+    }
+    if now != 1 {
+        return now;
+    }
+    digit_of_byte(b)
 }
 
 // The innermost brackets that are open at a place, looked for from behind.
@@ -64,7 +79,7 @@ fn look_back(text: &[u8], from: usize, at: usize) -> u64
 {
     let mut i = at;
     let mut level: usize = 0;
-    let mut now = None;
+    let mut now: u64 = 1;
     let mut window: u64 = 0;
     let mut power: u64 = 1;
     while from < i {
@@ -85,9 +100,9 @@ fn look_back(text: &[u8], from: usize, at: usize) -> u64
             level -= 1;
             continue;
         }
-        window += digit_of(now) * power;
+        window += now * power;
         power *= 4;
-        now = None;
+        now = 1;
     }
     window
 }

@@ -20,10 +20,10 @@ pub loop-i-preserved-then-level-ne0 : goal.loop-i-preserved-then-level-ne0
 loop-i-preserved-then-level-ne0 c = search (rules, inner)
 
 pub overflow_mul-window : goal.overflow_mul-window
-overflow_mul-window c = omega (arith, rw (← c.digit_of.ensures.value) at (sum_small _ _ _ _ _ _ _ _ c.loop-i.invariant))
+overflow_mul-window c = omega (arith, sum_small _ _ _ _ _ _ _ _ c.loop-i.invariant)
 
 pub overflow_add-window : goal.overflow_add-window
-overflow_add-window c = omega (arith, rw (← c.digit_of.ensures.value) at (sum_small _ _ _ _ _ _ _ _ c.loop-i.invariant))
+overflow_add-window c = omega (arith, sum_small _ _ _ _ _ _ _ _ c.loop-i.invariant)
 
 pub loop-i-preserved : goal.loop-i-preserved
 loop-i-preserved c = search (rules, opened)
