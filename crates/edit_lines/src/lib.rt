@@ -17,7 +17,7 @@ ghost use Rattle.edit_lines.specs.Run.{output_room, asked};
 
 use edit_file::{Edit, edit_at};
 use edits::{Answer, edit};
-use lines::{LINE, put_line, put_stop};
+use lines::{LINE, put_due_stop, put_line};
 use paper::{MOST_BACK, MOST_ELEMENTS, MOST_TOKENS};
 
 // Room for every line: an edit is three bytes or more, so there are at most 21,845, with the check's line before them and a stop after.
@@ -64,7 +64,7 @@ pub fn put_edits(
     while from < file.len() {
         let e = match edit_at(file, from, &mut piece) {
             Ok(e) => e,
-            Err(refusal) => return put_stop(out, to, refusal),
+            Err(refusal) => return put_due_stop(out, to, refusal),
         };
         let a = make(table, doc, held, e, &piece, &mut back, counts);
         to = put_line(out, to, k, a.number, a.place, a.used);

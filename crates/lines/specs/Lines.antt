@@ -183,11 +183,22 @@ line_put k n p u f g h i =
 
 -- ---- a stop
 
+abbrev pub stop_text : List ℕ
+stop_text = 115 ∷ 116 ∷ 111 ∷ 112 ∷ 32 ∷ []
+
+-- a number has room behind the text
+pub stop_room : {s t : List ℕ} {at a : ℕ} (n : ℕ) → at + line_room ≤ length s → n < 4294967296 → Put s at stop_text a t → a + length (shown n) < length t
+stop_room n h few p = omega (arith, shown_few 9 n (omega arith), p.place, put_length p)
+
+pub stop_put : {s t u : List ℕ} {at a b : ℕ} (n : ℕ) → Put s at stop_text a t → Put t a (field n 10) b u → Put s at (line_of (halt n)) b u
+unfolding line_of shown
+stop_put n p q = put_as (put_both p q) refl
+
 -- the fixed bytes of a stop
-pub stop_put : {s t : List ℕ} {at number r : ℕ} (k : ℕ) → ltb k 10 ≡ true → number ≡ k
+pub due_stop_put : {s t : List ℕ} {at number r : ℕ} (k : ℕ) → ltb k 10 ≡ true → number ≡ k
     → Put s at (115 ∷ 116 ∷ 111 ∷ 112 ∷ 32 ∷ (48 + k) ∷ 10 ∷ []) r t → Put s at (line_of (halt number)) r t
 unfolding line_of
-stop_put k b e p = put_as p (rw (e, b))
+due_stop_put k b e p = put_as p (rw (e, b))
 
 -- of the refusals with which the program stops, that which is none of the others
 pub last_stop : (e : Refusal) → Stop (number_of e) → e ≢ Broken → e ≢ Schema → e ≢ Ambiguous → number_of e ≡ 5

@@ -57,8 +57,8 @@ pub fn put_line(out: &mut [u8], at: usize, k: usize, number: u32, place: u32, us
     put_field(out, c, used as u64, b'\n')
 }
 
-// "prints `stop` and the number": fixed byte strings.
-pub fn put_stop(out: &mut [u8], at: usize, refusal: Refusal) -> usize
+// "prints `stop` and the number", one with which the program stops: fixed byte strings.
+pub fn put_due_stop(out: &mut [u8], at: usize, refusal: Refusal) -> usize
     requires { (Stop (number_of refusal)) × (at + line_room ≤ length out.old) }
     ensures { Put out.old at (line_of (halt (number_of refusal))) result out.new }
 {
@@ -67,5 +67,66 @@ pub fn put_stop(out: &mut [u8], at: usize, refusal: Refusal) -> usize
         Refusal::Schema => put_text(out, at, b"stop 2\n"),
         Refusal::Ambiguous => put_text(out, at, b"stop 3\n"),
         _ => put_text(out, at, b"stop 5\n"),
+    }
+}
+
+// The same of any refusal.
+#[tactic(auto, unfolding(crate::specs::Lines::line_of, crate::specs::Lines::shown))]
+pub fn put_stop(out: &mut [u8], at: usize, refusal: Refusal) -> usize
+    requires { at + line_room ≤ length out.old }
+    ensures { Put out.old at (line_of (halt (number_of refusal))) result out.new }
+{
+    match refusal {
+        Refusal::Broken => put_due_stop(out, at, refusal),
+        Refusal::Schema => put_due_stop(out, at, refusal),
+        Refusal::Ambiguous => put_due_stop(out, at, refusal),
+        Refusal::Shape => put_text(out, at, b"stop 4\n"),
+        Refusal::Room => put_due_stop(out, at, refusal),
+        Refusal::Place => put_text(out, at, b"stop 6\n"),
+        Refusal::Name => put_text(out, at, b"stop 7\n"),
+        Refusal::Attributes => put_text(out, at, b"stop 8\n"),
+        Refusal::Content => put_text(out, at, b"stop 9\n"),
+        Refusal::Root => put_text(out, at, b"stop 10\n"),
+        Refusal::IdTwice => put_text(out, at, b"stop 11\n"),
+        Refusal::NoId => put_text(out, at, b"stop 12\n"),
+        Refusal::Table => put_text(out, at, b"stop 13\n"),
+        Refusal::DtdText => put_text(out, at, b"stop 14\n"),
+        Refusal::Counts => put_text(out, at, b"stop 15\n"),
+        Refusal::NotCompared => put_text(out, at, b"stop 16\n"),
+    }
+}
+
+#[cfg(test)]
+mod tests {
+    use super::*;
+
+    // Each refusal's stop, behind a byte that stays as it was.
+    #[test]
+    fn stops_of_all_refusals(rt: HostRuntime) {
+        let texts: [(Refusal, &[u8]); 16] = [
+            (Refusal::Broken, b"stop 1\n"),
+            (Refusal::Schema, b"stop 2\n"),
+            (Refusal::Ambiguous, b"stop 3\n"),
+            (Refusal::Shape, b"stop 4\n"),
+            (Refusal::Room, b"stop 5\n"),
+            (Refusal::Place, b"stop 6\n"),
+            (Refusal::Name, b"stop 7\n"),
+            (Refusal::Attributes, b"stop 8\n"),
+            (Refusal::Content, b"stop 9\n"),
+            (Refusal::Root, b"stop 10\n"),
+            (Refusal::IdTwice, b"stop 11\n"),
+            (Refusal::NoId, b"stop 12\n"),
+            (Refusal::Table, b"stop 13\n"),
+            (Refusal::DtdText, b"stop 14\n"),
+            (Refusal::Counts, b"stop 15\n"),
+            (Refusal::NotCompared, b"stop 16\n"),
+        ];
+        for (refusal, text) in texts {
+            let mut out = [b'.'; LINE + 1];
+            let next = put_stop(&mut out, 1, refusal);
+            assert_eq!(rt; out[0], b'.');
+            assert_eq!(rt; &out[1..next], text);
+            assert!(rt; out[next..].iter().all(|b| *b == b'.'));
+        }
     }
 }

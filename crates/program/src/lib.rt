@@ -21,7 +21,7 @@ ghost use Rattle.program.specs.Stages.{given};
 
 use checks::check;
 use edit_lines::{OUTPUT, put_edits};
-use lines::{put_line, put_stop};
+use lines::{put_due_stop, put_line};
 use paper::{DONE, MOST_ELEMENTS, MOST_FILE, MOST_TOKENS, Refusal, TABLE_WORDS};
 
 // "After a check that isn't 0 nothing more is printed." Item 7: the counts are "written by a check that says valid and carried along by edits".
@@ -53,7 +53,7 @@ fn put_document(table: &[u64], doc: &[u8], edits: &[u8], out: &mut [u8]) -> usiz
     let mut tokens = [0u32; MOST_TOKENS];
     let used = match docfile::read_tokens(doc, &mut tokens) {
         Ok(count) => count as usize,
-        Err(refusal) => return put_stop(out, 0, refusal),
+        Err(refusal) => return put_due_stop(out, 0, refusal),
     };
     let mut counts = [0i32; MOST_ELEMENTS];
     put_check(table, &mut tokens, used, edits, out, &mut counts)
@@ -67,7 +67,7 @@ fn put_schema(schema: &[u8], doc: &[u8], edits: &[u8], out: &mut [u8]) -> usize
     let mut table = [0u64; TABLE_WORDS];
     match schema::translate(schema, &mut table) {
         Ok(()) => put_document(&table, doc, edits, out),
-        Err(refusal) => put_stop(out, 0, refusal),
+        Err(refusal) => put_due_stop(out, 0, refusal),
     }
 }
 
@@ -90,10 +90,10 @@ pub fn output(
     ensures { Put out.old 0 (printed (given opened schema.now) (given opened doc.now) (given opened edits.now)) result out.new }
 {
     if !opened {
-        return put_stop(out, 0, Refusal::Room);
+        return put_due_stop(out, 0, Refusal::Room);
     }
     if !short(schema, doc, edits) {
-        return put_stop(out, 0, Refusal::Room);
+        return put_due_stop(out, 0, Refusal::Room);
     }
     put_schema(schema, doc, edits, out)
 }

@@ -12,14 +12,14 @@ loop-from-init c =
 pub edit_at-requires : goal.edit_at-requires
 edit_at-requires c = c.loop-from.invariant.places
 
-pub put_stop-requires : goal.put_stop-requires
-put_stop-requires c =
+pub put_due_stop-requires : goal.put_due_stop-requires
+put_due_stop-requires c =
     let l = c.loop-from.invariant in
     let t = c.loop-from-test.true in
     (go_halt _ _ _ _ _ _ _ l t c.in-Err.ensures, (go_room _ _ _ _ _ _ _ l t c.requires.1 c.requires.2).1)
 
 pub returns-in-Err : goal.returns-in-Err
-returns-in-Err c = go_stop _ _ _ _ _ _ _ c.loop-from.invariant c.loop-from-test.true c.in-Err.ensures c.put_stop.ensures
+returns-in-Err c = go_stop _ _ _ _ _ _ _ c.loop-from.invariant c.loop-from-test.true c.in-Err.ensures c.put_due_stop.ensures
 
 pub make-a-requires : goal.make-a-requires
 make-a-requires c = omega (arith, c.in-Ok.ensures.few, c.edit_at.auto.piece, c.loop-from.invariant.places)
