@@ -109,10 +109,13 @@ module _ (table : List ℕ) (e : ℕ) (doc : List ℕ) (at : ℕ) where
   abbrev h : List Tok
   h = heads (drop at (toks doc))
 
+  pub not_listed : false ≡ listed_good (of_table table) e h → false ≡ attributes_good (of_table table) e h
+  not_listed n = sym (good_parts table e h ∙ ap (λ b. b && fixed_kept table e h) (sym n))
+
   -- the pass's Err is handed on
-  pub not_listed : {after : ℕ} → (false ≡ listed_good (of_table table) e h) × Behind doc at after → (r : Result ℕ ℕ) → IsErrAnd r (λ x. x ≡ after) → Judged table e doc at r
-  not_listed c (Ok x) i = absurd i
-  not_listed c (Err x) i = rw i (sym (good_parts table e h ∙ ap (λ b. b && fixed_kept table e h) (sym c.0)), c.1)
+  pub not_judged : {after : ℕ} → (false ≡ listed_good (of_table table) e h) × Behind doc at after → (r : Result ℕ ℕ) → IsErrAnd r (λ x. x ≡ after) → Judged table e doc at r
+  not_judged c (Ok x) i = absurd i
+  not_judged c (Err x) i = rw i (not_listed c.0, c.1)
 
   module _ {after : ℕ} (c : (true ≡ listed_good (of_table table) e h) × Behind doc at after) where
     with_fixed : {k : Bool} → k ≡ fixed_kept table e h → k ≡ attributes_good (of_table table) e h

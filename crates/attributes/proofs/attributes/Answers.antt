@@ -1,10 +1,10 @@
 -- `attributes::attributes` meets its contract. Assumes nothing.
 use Rattle.fixed_values.specs.Value.{count_in}
-use Rattle.attributes.specs.Attributes.{not_listed, none_fixed, fixed_all, fixed_not}
+use Rattle.attributes.specs.Attributes.{not_judged, none_fixed, fixed_all, fixed_not}
 use Rattle.attributes.proofs.attributes.Goals as goal
 
 pub returns-in_err-after : goal.returns-in_err-after
-returns-in_err-after c = not_listed c.args.table.now c.args.e c.args.doc.now c.args.at c.in_err-after.ensures _ c.from_residual.ensures.1
+returns-in_err-after c = not_judged c.args.table.now c.args.e c.args.doc.now c.args.at c.in_err-after.ensures _ c.from_residual.ensures.1
 
 pub bounds-table-6626 : goal.bounds-table-6626
 bounds-table-6626 c = search count_in
