@@ -55,12 +55,10 @@ module _ (allowed idrefs : ℕ) (m : Met) (a : ℕ) where
     attribute_refused h = rw (← ey, not-true y h)
 
     module _ (h : not y ≡ false) {set : ℕ} (es : set ≡ bit_or m.set (2 ^ a)) {z : Bool} (ez : z ≡ bit idrefs a) where
-      pub attribute_many : z ≡ true
-          → record { set = set; takes = 2; good = m.good && not (eqb m.takes 1) } ≡ attribute_of allowed idrefs m a
+      pub attribute_many : z ≡ true → record { set = set; takes = 2; good = m.good && not (eqb m.takes 1) } ≡ attribute_of allowed idrefs m a
       attribute_many e = rw (← ey, not-false y h, ← ez, e, es)
 
-      pub attribute_one : z ≡ false
-          → record { set = set; takes = 1; good = m.good && not (eqb m.takes 1) } ≡ attribute_of allowed idrefs m a
+      pub attribute_one : z ≡ false → record { set = set; takes = 1; good = m.good && not (eqb m.takes 1) } ≡ attribute_of allowed idrefs m a
       attribute_one e = rw (← ey, not-false y h, ← ez, e, es)
 
 module _ (m : Met) where
@@ -225,8 +223,7 @@ module _ (required allowed idrefs : ℕ) (m : Met) where
 abbrev pub begins : Met
 begins = record { set = 0; takes = 2; good = true }
 
-shows_begin : (table : List ℕ) (e : ℕ) (h : List Tok)
-    → listed_good (of_table table) e h
+shows_begin : (table : List ℕ) (e : ℕ) (h : List Tok) → listed_good (of_table table) e h
     ≡ shows (cell (block table e) required_at) (cell (block table e) allowed_at) (cell (block table e) idrefs_at) begins h
 unfolding listed_good shows
 shows_begin table e h =
